@@ -1,0 +1,59 @@
+-- Laws of what holds of every element, and of tests that pass for every number below another.
+-- Assumes nothing.
+use Prim.Native.Nat.{ℕ, zero, suc, _≤_, _<_}
+use mathlib.Core.Path.{_≡_, refl, sym, ap, _∙_}
+use mathlib.Core.Bool.{Bool, true, false, true≢false, false≢true}
+use mathlib.Core.List.{List, [], _∷_, _++_}
+use mathlib.Core.Logic.{⊎-elim}
+use native.Mathlib.Omega.{arith}
+use native.Mathlib.Nat.{not-suc-le-zero, le-of-suc-le-suc, eq-or-lt-of-le}
+use lib.ListN.{length, getD}
+use Rattle.lists.specs.Every.{every, each-below, Every}
+
+module _ {A : Type 0} where
+  pub every-map : (P Q : A → Type 0) → ((a : A) → P a → Q a) → (xs : List A) → Every P xs → Every Q xs
+  every-map P Q f [] h = tt
+  every-map P Q f (x ∷ xs) h = (f x (h .0), every-map P Q f xs (h .1))
+
+  pub every-both : (P Q R : A → Type 0) → ((a : A) → P a → Q a → R a) → (xs : List A) → Every P xs → Every Q xs → Every R xs
+  every-both P Q R f [] h k = tt
+  every-both P Q R f (x ∷ xs) h k = (f x (h .0) (k .0), every-both P Q R f xs (h .1) (k .1))
+
+  pub every-snoc : (P : A → Type 0) (xs : List A) (x : A) → Every P xs → P x → Every P (xs ++ (x ∷ []))
+  every-snoc P [] x h k = (k, tt)
+  every-snoc P (y ∷ xs) x h k = (h .0, every-snoc P xs x (h .1) k)
+
+  pub every-at : (P : A → Type 0) (xs : List A) (d : A) → Every P xs → (i : ℕ) → i < length xs → P (getD xs i d)
+  every-at P [] d h i k = absurd (not-suc-le-zero k)
+  every-at P (x ∷ xs) d h zero k = h .0
+  every-at P (x ∷ xs) d h (suc i) k = every-at P xs d (h .1) i (le-of-suc-le-suc k)
+
+  pub every-is : (P : A → Type 0) (xs : List A) (d : A) → ((i : ℕ) → i < length xs → P (getD xs i d)) → Every P xs
+  every-is P [] d f = tt
+  every-is P (x ∷ xs) d f = (f zero (omega arith), every-is P xs d (λ i h. f (suc i) (omega arith)))
+
+-- a list of tests, and the facts that they all pass
+
+abbrev pub Passing : List Bool → Type 0
+Passing [] = Unit {0}
+Passing (b ∷ bs) = (b ≡ true) × Passing bs
+
+pub parts : (bs : List Bool) → every bs ≡ true → Passing bs
+parts [] e = tt
+parts (true ∷ bs) e = (refl, parts bs e)
+parts (false ∷ bs) e = absurd (false≢true e)
+
+pub whole : (bs : List Bool) → Passing bs → every bs ≡ true
+whole [] h = refl
+whole (true ∷ bs) h = whole bs (h .1)
+whole (false ∷ bs) h = h .0
+
+pub below-at : (p : ℕ → Bool) (n : ℕ) → each-below n p ≡ true → (i : ℕ) → i < n → p i ≡ true
+below-at p zero e i h = absurd (not-suc-le-zero h)
+below-at p (suc n) e i h =
+    let m = parts (each-below n p ∷ p n ∷ []) e in
+    ⊎-elim (λ q. ap p q ∙ m .1 .0) (λ k. below-at p n (m .0) i k) (eq-or-lt-of-le (le-of-suc-le-suc h))
+
+pub below-is : (p : ℕ → Bool) (n : ℕ) → ((i : ℕ) → i < n → p i ≡ true) → each-below n p ≡ true
+below-is p zero f = refl
+below-is p (suc n) f = whole (each-below n p ∷ p n ∷ []) (below-is p n (λ i h. f i (omega arith)), (f n (omega arith), tt))

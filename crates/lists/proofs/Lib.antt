@@ -1,0 +1,4 @@
+pub mod Bools
+pub mod Place
+pub mod Search
+pub mod Every

@@ -1,0 +1,61 @@
+-- Laws of searches.
+-- Assumes nothing.
+use Prim.Native.Nat.{ℕ, zero, suc, _+_, _≤_, _<_}
+use mathlib.Core.Path.{_≡_, refl, sym, ap, _∙_}
+use mathlib.Core.Bool.{Bool, true, false, _||_, cond, true≢false, false≢true}
+use mathlib.Core.List.{List, [], _∷_, _++_}
+use native.Mathlib.Omega.{arith}
+use native.Mathlib.Nat.{not-suc-le-zero, le-of-suc-le-suc}
+use lib.ListN.{length, getD}
+use Rattle.lists.specs.Search.{some-pass, first-place, how-many, leave-out}
+use Rattle.lists.specs.Every.{Every}
+use Rattle.lists.proofs.Bools.{either, or-left, or-right}
+
+module _ {A : Type 0} (p : A → Bool) where
+  -- where none passes, none does at any place
+  pub none-passes : (xs : List A) (d : A) → p d ≡ false → some-pass p xs ≡ false → (i : ℕ) → p (getD xs i d) ≡ false
+  none-passes [] d n e i = n
+  none-passes (x ∷ xs) d n e zero = or-left (p x) (some-pass p xs) e
+  none-passes (x ∷ xs) d n e (suc i) = none-passes xs d n (or-right (p x) (some-pass p xs) e) i
+
+  pub none-of : (xs : List A) → some-pass p xs ≡ false → Every (λ x. p x ≡ false) xs
+  none-of [] e = tt
+  none-of (x ∷ xs) e = (or-left (p x) (some-pass p xs) e, none-of xs (or-right (p x) (some-pass p xs) e))
+
+  -- where one passes, the first that does stands at its place
+  pub first-passes : (xs : List A) (d : A) → some-pass p xs ≡ true → p (getD xs (first-place p xs) d) ≡ true
+  first-passes [] d e = absurd (false≢true e)
+  first-passes (x ∷ xs) d e = go (p x) refl (first-passes xs d) e
+    where
+      go : (b : Bool) → p x ≡ b → (some-pass p xs ≡ true → p (getD xs (first-place p xs) d) ≡ true) → (b || some-pass p xs) ≡ true
+          → p (getD (x ∷ xs) (cond b 0 (suc (first-place p xs))) d) ≡ true
+      go true f r h = f
+      go false f r h = r h
+
+  -- whoever stands at a place and passes is found
+  pub found : (xs : List A) (d : A) → p d ≡ false → (i : ℕ) → p (getD xs i d) ≡ true → some-pass p xs ≡ true
+  found [] d n i e = absurd (false≢true (sym n ∙ e))
+  found (x ∷ xs) d n zero e = rw e
+  found (x ∷ xs) d n (suc i) e = rw (found xs d n i e) (either (λ b. (b || true) ≡ true) refl refl (p x))
+
+  pub some-snoc : (xs : List A) (a : A) → some-pass p (xs ++ (a ∷ [])) ≡ (some-pass p xs || p a)
+  some-snoc [] a = either (λ b. (b || false) ≡ b) refl refl (p a)
+  some-snoc (x ∷ xs) a = rw (some-snoc xs a) (either (λ b. (b || (some-pass p xs || p a)) ≡ ((b || some-pass p xs) || p a)) refl refl (p x))
+
+  -- the list without those that pass
+
+  pub every-left : (P : A → Type 0) (xs : List A) → Every P xs → Every P (leave-out p xs)
+  every-left P [] h = tt
+  every-left P (x ∷ xs) h = go (p x) (every-left P xs (h .1))
+    where
+      go : (b : Bool) → Every P (leave-out p xs) → Every P (cond b (leave-out p xs) (x ∷ leave-out p xs))
+      go true r = r
+      go false r = (h .0, r)
+
+  pub length-left : (xs : List A) → length (leave-out p xs) ≤ length xs
+  length-left [] = omega arith
+  length-left (x ∷ xs) = go (p x) (length-left xs)
+    where
+      go : (b : Bool) → length (leave-out p xs) ≤ length xs → length (cond b (leave-out p xs) (x ∷ leave-out p xs)) ≤ suc (length xs)
+      go true h = omega arith
+      go false h = omega arith

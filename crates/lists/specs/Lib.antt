@@ -1,0 +1,4 @@
+pub mod Search
+pub mod Every
+pub mod Column
+pub mod Letters
