@@ -2,6 +2,7 @@
 -- Assumes nothing.
 use mathlib.Core.Path.{_≡_, refl}
 use mathlib.Core.Bool.{Bool, true, false, not, _&&_, _||_, true≢false, false≢true}
+use mathlib.Core.Logic.{_⊎_, inl, inr}
 use Rattle.lists.specs.Every.{implies}
 
 pub either : (P : Bool → Type 0) → P true → P false → (b : Bool) → P b
@@ -46,3 +47,10 @@ module _ (a b : Bool) where
       (λ f. either (λ b. (b ≡ true → ⊥) → b ≡ false) (λ g. absurd (g refl)) (λ g. refl) b (f refl))
       (λ f. refl)
       a
+
+pub true-or-false : (b : Bool) → (b ≡ true) ⊎ (b ≡ false)
+true-or-false true = inl refl
+true-or-false false = inr refl
+
+pub never-true : (b : Bool) → (b ≡ true → ⊥) → b ≡ false
+never-true b = either (λ b. (b ≡ true → ⊥) → b ≡ false) (λ f. absurd (f refl)) (λ f. refl) b

@@ -2,13 +2,16 @@
 -- Assumes nothing.
 use Prim.Native.Nat.{ℕ, zero, suc, _≤_, _<_}
 use mathlib.Core.Path.{_≡_, refl, sym, ap, _∙_}
-use mathlib.Core.Bool.{Bool, true, false, true≢false, false≢true}
+use mathlib.Core.Bool.{Bool, true, false, not, _&&_, true≢false, false≢true}
 use mathlib.Core.List.{List, [], _∷_, _++_}
-use mathlib.Core.Logic.{⊎-elim}
+use mathlib.Core.Logic.{⊎-elim, _↔_}
 use native.Mathlib.Omega.{arith}
 use native.Mathlib.Nat.{not-suc-le-zero, le-of-suc-le-suc, eq-or-lt-of-le}
+use lib.Dec.{eqb}
 use lib.ListN.{length, getD}
+use borrow.Author.Tests.{eqb-true, eq-eqb}
 use Rattle.lists.specs.Every.{every, each-below, Every}
+use Rattle.lists.proofs.Bools.{and-left, and-right, not-both}
 
 module _ {A : Type 0} where
   pub every-map : (P Q : A → Type 0) → ((a : A) → P a → Q a) → (xs : List A) → Every P xs → Every Q xs
@@ -57,3 +60,37 @@ below-at p (suc n) e i h =
 pub below-is : (p : ℕ → Bool) (n : ℕ) → ((i : ℕ) → i < n → p i ≡ true) → each-below n p ≡ true
 below-is p zero f = refl
 below-is p (suc n) f = whole (each-below n p ∷ p n ∷ []) (below-is p n (λ i h. f i (omega arith)), (f n (omega arith), tt))
+
+-- no two numbers that are held share a key: tested pair by pair, each with those below it
+
+abbrev pub Apart : (ℕ → Bool) → (ℕ → ℕ) → Type 0
+Apart held key = (i j : ℕ) → held i ≡ true → held j ≡ true → key i ≡ key j → i ≡ j
+
+abbrev pub clash : (ℕ → Bool) → (ℕ → ℕ) → ℕ → ℕ → Bool
+clash held key i j = (held i && held j) && eqb (key i) (key j)
+
+pub apart-tested : (held : ℕ → Bool) (key : ℕ → ℕ) (n : ℕ) → ((i : ℕ) → held i ≡ true → i < n)
+    → (each-below n (λ j. each-below j (λ i. not (clash held key i j))) ≡ true) ↔ Apart held key
+apart-tested held key n within = (
+  λ e i j x y k. let f = never e i j x y k in let g = never e j i y x (sym k) in omega arith,
+  λ f.
+      below-is (λ j. each-below j (λ i. not (clash held key i j))) n
+      (λ j m. below-is (λ i. not (clash held key i j)) j (λ i h. rw (not-both (held i && held j) (eqb (key i) (key j)) (free f i j h)))),
+)
+  where
+    never : each-below n (λ j. each-below j (λ i. not (clash held key i j))) ≡ true
+        → (i j : ℕ) → held i ≡ true → held j ≡ true → key i ≡ key j → i < j → ⊥
+    never e i j x y k h =
+        let earlier = below-at (λ j. each-below j (λ i. not (clash held key i j))) n e j (within j y) in
+        false≢true (rw (x, y, eq-eqb _ _ k) at (below-at (λ i. not (clash held key i j)) j earlier i h))
+
+    free : Apart held key → (i j : ℕ) → i < j → (held i && held j) ≡ true → eqb (key i) (key j) ≡ true → ⊥
+    free f i j h b k =
+        let same = f i j (and-left (held i) (held j) b) (and-right (held i) (held j) b) (eqb-true (key i) (key j) k) in omega arith
+
+-- what holds of each element and, past the end, of the default holds at every place
+pub every-place : {A : Type 0} (P : ℕ → A → Type 0) (xs : List A) (d : A) → ((i : ℕ) → P i d) → ((i : ℕ) → i < length xs → P i (getD xs i d))
+    → (i : ℕ) → P i (getD xs i d)
+every-place P [] d past f i = past i
+every-place P (x ∷ xs) d past f zero = f zero (omega arith)
+every-place P (x ∷ xs) d past f (suc i) = every-place (λ i. P (suc i)) xs d (λ i. past (suc i)) (λ i h. f (suc i) (omega arith)) i

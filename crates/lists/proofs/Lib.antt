@@ -2,3 +2,5 @@ pub mod Bools
 pub mod Place
 pub mod Search
 pub mod Every
+pub mod Column
+pub mod Total

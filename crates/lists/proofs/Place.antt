@@ -51,3 +51,21 @@ module _ {A : Type 0} where
   within f [] i d n e = absurd (false≢true (sym n ∙ e))
   within f (x ∷ l) zero d n e = omega arith
   within f (x ∷ l) (suc i) d n e = omega (arith, within f l i d n e)
+
+  -- of those with a flag, no two have the same key: so still after one more, whose key none of them has
+  pub snoc-apart : {K : Type 0} (flag : A → Bool) (key : A → K) (l : List A) (a d : A)
+      → ((i j : ℕ) → flag (getD l i d) ≡ true → flag (getD l j d) ≡ true → key (getD l i d) ≡ key (getD l j d) → i ≡ j)
+      → ((i : ℕ) → flag (getD l i d) ≡ true → key (getD l i d) ≡ key a → ⊥)
+      → (i j : ℕ)
+      → flag (getD (l ++ (a ∷ [])) i d) ≡ true
+      → flag (getD (l ++ (a ∷ [])) j d) ≡ true
+      → key (getD (l ++ (a ∷ [])) i d) ≡ key (getD (l ++ (a ∷ [])) j d)
+      → i ≡ j
+  snoc-apart flag key l a d apart free i j =
+      snoc-at (λ i x. Apart i x j (getD (l ++ (a ∷ [])) j d)) l a d
+      (λ i n. snoc-at (Apart i (getD l i d)) l a d (λ j m. apart i j) (λ u v k. absurd (free i u k)) j)
+      (snoc-at (Apart (length l) a) l a d (λ j m u v k. absurd (free j v (sym k))) (λ u v k. refl) j)
+      i
+    where
+      Apart : ℕ → A → ℕ → A → Type 0
+      Apart i x j y = flag x ≡ true → flag y ≡ true → key x ≡ key y → i ≡ j

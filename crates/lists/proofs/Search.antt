@@ -59,3 +59,11 @@ module _ {A : Type 0} (p : A → Bool) where
       go : (b : Bool) → length (leave-out p xs) ≤ length xs → length (cond b (leave-out p xs) (x ∷ leave-out p xs)) ≤ suc (length xs)
       go true h = omega arith
       go false h = omega arith
+
+  -- where nobody at any place passes, none is found
+  pub not-found : (xs : List A) (d : A) → ((i : ℕ) → p (getD xs i d) ≡ true → ⊥) → some-pass p xs ≡ false
+  not-found xs d f = go (some-pass p xs) refl
+    where
+      go : (b : Bool) → some-pass p xs ≡ b → b ≡ false
+      go true e = absurd (f (first-place p xs) (first-passes xs d e))
+      go false e = refl

@@ -20,3 +20,4 @@ pub mod History
 pub mod Demand2
 pub mod Demand3
 pub mod Past
+pub mod Broken
