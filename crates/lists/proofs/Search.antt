@@ -1,13 +1,12 @@
 -- Laws of searches.
 -- Assumes nothing.
-use Prim.Native.Nat.{ℕ, zero, suc, _+_, _≤_, _<_}
-use mathlib.Core.Path.{_≡_, refl, sym, ap, _∙_}
-use mathlib.Core.Bool.{Bool, true, false, _||_, cond, true≢false, false≢true}
+use Prim.Native.Nat.{ℕ, zero, suc, _≤_}
+use mathlib.Core.Path.{_≡_, refl, sym, _∙_}
+use mathlib.Core.Bool.{Bool, true, false, _||_, cond, false≢true}
 use mathlib.Core.List.{List, [], _∷_, _++_}
 use native.Mathlib.Omega.{arith}
-use native.Mathlib.Nat.{not-suc-le-zero, le-of-suc-le-suc}
 use lib.ListN.{length, getD}
-use Rattle.lists.specs.Search.{some-pass, first-place, how-many, leave-out}
+use Rattle.lists.specs.Search.{some-pass, first-place, leave-out}
 use Rattle.lists.specs.Every.{Every}
 use Rattle.lists.proofs.Bools.{either, or-left, or-right}
 

@@ -4,7 +4,7 @@ use Prim.Native.Nat.{ℕ}
 use mathlib.Core.Path.{_≡_, refl, sym}
 use mathlib.Core.List.{List, [], _∷_, _++_, append-assoc, append-nil}
 use Rattle.rules.specs.Limits.{Limits}
-use Rattle.rules.specs.Answers.{Verdict, Outcome, pass, stop, verdict, carry}
+use Rattle.rules.specs.Answers.{Verdict, pass, stop, verdict, carry}
 use Rattle.rules.specs.Commands.{offered}
 use Rattle.rules.specs.Table.{Store}
 use Rattle.rules.specs.Rows.{tests, result, effect, step}

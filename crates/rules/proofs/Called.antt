@@ -1,22 +1,19 @@
 -- What a call gives on any table: on a sound one what the rows say, on a damaged one 9 and the table as it came. So a refusal keeps
 -- the columns, a call keeps a sound table sound and a damaged one damaged, and the empty tables are sound.
 -- Assumes nothing.
-use Prim.Native.Nat.{ℕ}
-use mathlib.Core.Path.{_≡_, refl, sym, ap, subst, _∙_}
-use mathlib.Core.Bool.{false, false≢true}
+use mathlib.Core.Path.{_≡_, sym, ap, subst, _∙_}
+use mathlib.Core.Bool.{false}
 use mathlib.Core.Logic.{_⊎_, inl, inr, ⊎-elim}
-use native.Mathlib.Omega.{arith}
-use native.Mathlib.Nat.{not-suc-le-zero}
 use Rattle.lists.proofs.Bools.{true-or-false, never-true}
 use Rattle.rules.specs.Limits.{Limits}
-use Rattle.rules.specs.Answers.{Outcome, Verdict, refused, pass, stop, verdict, settle, carry}
+use Rattle.rules.specs.Answers.{Outcome, refused}
 use Rattle.rules.specs.Commands.{Offered, Answer-to, offered}
-use Rattle.rules.specs.Table.{Registry, Store, empty-registry, empty-store}
-use Rattle.rules.specs.Rows.{tests, result, effect, step}
-use Rattle.rules.specs.Queries.{Query, Beside, beside, query-tests, query-result, reply}
-use Rattle.rules.specs.RegistryRows.{Call, Call-answer, call-tests, call-result, call-effect, registry-step}
+use Rattle.rules.specs.Table.{empty-registry, empty-store}
+use Rattle.rules.specs.Rows.{step}
+use Rattle.rules.specs.Queries.{Query, Beside, beside, reply}
+use Rattle.rules.specs.RegistryRows.{Call, Call-answer, registry-step}
 use Rattle.rules.specs.Columns.{RegistryColumns, StoreColumns, used-registry, used, filled-registry, filled}
-use Rattle.rules.specs.Sound.{Registry-sound, Store-sound, Registry-columns-sound, Store-columns-sound}
+use Rattle.rules.specs.Sound.{Registry-columns-sound, Store-columns-sound}
 use Rattle.rules.specs.SoundTest.{registry-test, store-test}
 use Rattle.rules.specs.Calls.{laid-out, laid-out-registry, command, query, registry-call}
 use Rattle.rules.specs.declared.Command.{Command}

@@ -1,10 +1,9 @@
 -- The broker that tests its columns before every command meets the second and the third demand, from any sound table.
 -- Assumes nothing.
-use mathlib.Core.Path.{_≡_, refl, sym, ap, _∙_}
-use mathlib.Core.List.{List, []}
+use mathlib.Core.Path.{_≡_, refl, ap, _∙_}
+use mathlib.Core.List.{[]}
 use Rattle.rules.specs.Limits.{Limits}
-use Rattle.rules.specs.Answers.{Outcome}
-use Rattle.rules.specs.Table.{Store, empty-store}
+use Rattle.rules.specs.Table.{empty-store}
 use Rattle.rules.specs.Rows.{step}
 use Rattle.rules.specs.Columns.{StoreColumns, used, filled}
 use Rattle.rules.specs.Sound.{Store-sound, Store-columns-sound}

@@ -1,15 +1,14 @@
 -- Brokers that answer alike meet the third demand alike: whoever meets the second meets the third.
 -- Assumes nothing.
-use Prim.Native.Nat.{ℕ, _+_}
+use Prim.Native.Nat.{ℕ}
 use mathlib.Core.Path.{_≡_, refl, sym, ap, _∙_}
 use mathlib.Core.List.{List, [], _∷_, _++_}
-use mathlib.Core.Option.{Option, none, some}
 use lib.ListN.{length}
 use Rattle.rules.specs.Limits.{Limits}
-use Rattle.rules.specs.Answers.{Outcome, refused, done}
+use Rattle.rules.specs.Answers.{done}
 use Rattle.rules.specs.Table.{Store}
 use Rattle.rules.specs.Rows.{step}
-use Rattle.rules.specs.Broker.{Broker, Event, events, run, told}
+use Rattle.rules.specs.Broker.{Broker, Event, run, told}
 use Rattle.rules.specs.History.{given-out, holding, outstanding, unreleased, among}
 use Rattle.rules.specs.Demand2.{by-the-rows, Demand2, Demand2-table}
 use Rattle.rules.specs.Demand3.{asked, history, since, observed, retained, shown, left, Revoking, Demand3}

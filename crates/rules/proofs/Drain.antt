@@ -1,9 +1,7 @@
 -- The third demand at an example: its premises can be met, and both its sides are reached.
 -- Assumes nothing.
-use Prim.Native.Nat.{ℕ}
 use mathlib.Core.Path.{_≡_, refl}
 use mathlib.Core.List.{List, [], _∷_, _++_}
-use native.Mathlib.Omega.{arith}
 use Rattle.rules.specs.Limits.{box}
 use Rattle.rules.specs.Answers.{refused, done}
 use Rattle.rules.specs.Table.{empty-store}

@@ -3,24 +3,24 @@
 use Prim.Native.Nat.{ℕ, zero, suc, _+_, _≤_, _<_}
 use mathlib.Core.Path.{_≡_, refl, sym, ap, _∙_}
 use mathlib.Core.Logic.{_≢_}
-use mathlib.Core.Bool.{Bool, true, false, cond, _||_, true≢false}
+use mathlib.Core.Bool.{Bool, true, false, cond, _||_}
 use mathlib.Core.List.{List, [], _∷_, _++_}
 use mathlib.Core.Option.{Option, none, some}
 use native.Mathlib.Omega.{arith}
-use lib.Dec.{leb, eqb}
+use lib.Dec.{eqb}
 use lib.ListN.{length, getD, set, length-append, length-set}
 use borrow.Author.Tests.{leb-false, not-false, eqb-true, eqb-false, eq-eqb, ne-eqb}
-use Rattle.lists.specs.Search.{some-pass, leave-out}
+use Rattle.lists.specs.Search.{leave-out}
 use Rattle.lists.proofs.Bools.{either, or-left, or-right}
 use Rattle.lists.proofs.Place.{getD-set, getD-snoc, set-keeps}
 use Rattle.lists.proofs.Search.{some-snoc}
 use Rattle.lists.proofs.Total.{total, total-same, total-change, tally, tally-append}
 use Rattle.rules.specs.Limits.{Limits}
-use Rattle.rules.specs.Table.{Registry, Store, at, blank-publication, publication-of, payload-of}
+use Rattle.rules.specs.Table.{Store, blank-publication, publication-of, payload-of}
 use Rattle.rules.specs.Conditions.{names, is-lease, unknown}
 use Rattle.rules.specs.Changes.{published, adopted, hidden, reclaimed}
 use Rattle.rules.specs.Rows.{tests, result, effect}
-use Rattle.rules.specs.Broker.{Event, began, swapped, ended, lent, freed, tells}
+use Rattle.rules.specs.Broker.{Event, tells}
 use Rattle.rules.specs.History.{gather, follow, takes, gives, accepted, handed-back, among, is-publication, notes, given-out, holds, holding, without, owes, outstanding}
 use Rattle.rules.specs.Sound.{Store-sound}
 use Rattle.rules.specs.declared.PublicationId.{PublicationId}

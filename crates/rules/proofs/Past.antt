@@ -1,6 +1,6 @@
 -- The third demand from any sound table, with the handles and the leases in it counted as the start.
 -- Assumes nothing.
-use Prim.Native.Nat.{ℕ, zero, suc, _+_, _≤_, _<_}
+use Prim.Native.Nat.{ℕ, zero, suc, _+_, _<_}
 use mathlib.Core.Path.{_≡_, refl, sym, ap, _∙_}
 use mathlib.Core.Bool.{Bool, true, false, cond}
 use mathlib.Core.List.{List, [], _∷_, _++_, append-assoc, append-nil}
@@ -15,7 +15,7 @@ use Rattle.lists.proofs.Total.{total, total-same, total-cons, tally}
 use Rattle.rules.specs.Limits.{Limits}
 use Rattle.rules.specs.Table.{Store, empty-store, blank-publication, publication-of, payload-of}
 use Rattle.rules.specs.Conditions.{names}
-use Rattle.rules.specs.Broker.{Event, run, told, began, ended, lent}
+use Rattle.rules.specs.Broker.{Event, run, told, ended}
 use Rattle.rules.specs.History.{gather, follow, takes, gives, among, holds, owes, notes, holding, outstanding, given-out}
 use Rattle.rules.specs.Demand2.{by-the-rows}
 use Rattle.rules.specs.Demand3.{Demand3}

@@ -1,25 +1,22 @@
 -- No broken broker meets the demands: to each the commands that show it.
 -- Assumes nothing.
-use Prim.Native.Nat.{ℕ, _+_}
+use Prim.Native.Nat.{ℕ}
 use mathlib.Core.Path.{_≡_, refl, ap}
 use mathlib.Core.Logic.{_≢_}
-use mathlib.Core.List.{List, [], _∷_, _++_}
-use mathlib.Core.Option.{Option, none, some}
+use mathlib.Core.List.{List, [], _∷_}
+use mathlib.Core.Option.{none, some}
 use native.Mathlib.Omega.{arith}
-use Rattle.rules.specs.Limits.{Limits, box}
-use Rattle.rules.specs.Answers.{refused, done}
+use Rattle.rules.specs.Limits.{box}
 use Rattle.rules.specs.Table.{Store, empty-store}
 use Rattle.rules.specs.Changes.{published}
 use Rattle.rules.specs.Rows.{step}
-use Rattle.rules.specs.Broker.{Broker, events, run, told}
+use Rattle.rules.specs.Broker.{events, run, told}
 use Rattle.rules.specs.History.{holding}
 use Rattle.rules.specs.Demand2.{Demand2, Demand2-table, by-the-rows}
-use Rattle.rules.specs.Demand3.{Demand3, Revoking}
+use Rattle.rules.specs.Demand3.{Demand3}
 use Rattle.rules.specs.Broken.{refuses-everything, tests-port-against-retained, answers-6-for-never-given, reclaims-under-lease, hands-back-the-same, hands-back-the-new, invents-the-count, releases-nothing, releases-all, leaves-the-handle-behind, idle, idle-answer}
 use Rattle.rules.specs.declared.PublicationId.{PublicationId}
 use Rattle.rules.specs.declared.LeaseId.{LeaseId}
-use Rattle.rules.specs.declared.Owner.{Owner}
-use Rattle.rules.specs.declared.Port.{Port}
 use Rattle.rules.specs.declared.Domain.the-variants.{Unset}
 use Rattle.rules.specs.declared.Command.{Command}
 use Rattle.rules.specs.declared.Command.the-variants.{Publish, Adopt, Acquire, Release, Revoke, Replace, Reclaim, Read, Observe, Resolve, Count}

@@ -5,23 +5,23 @@ use mathlib.Core.Path.{_≡_, refl, sym, ap, subst, _∙_}
 use mathlib.Core.Logic.{_≢_}
 use mathlib.Core.Bool.{Bool, true, false, not, cond, _||_, true≢false, false≢true}
 use mathlib.Core.List.{List, [], _∷_, _++_, append-assoc}
-use mathlib.Core.Option.{Option, none, some}
+use mathlib.Core.Option.{none, some}
 use native.Mathlib.Omega.{arith}
-use lib.Dec.{leb, eqb}
-use lib.ListN.{length, getD, set, length-append, length-set, List·getD-eq-default}
+use lib.Dec.{eqb}
+use lib.ListN.{length, getD, length-append, length-set, List·getD-eq-default}
 use borrow.Author.Tests.{leb-true, leb-false, lt-leb, not-false, eqb-true, eq-eqb, ne-eqb}
-use Rattle.lists.specs.Search.{some-pass, how-many}
+use Rattle.lists.specs.Search.{some-pass}
 use Rattle.lists.specs.Every.{Every}
 use Rattle.lists.proofs.Bools.{either}
 use Rattle.lists.proofs.Place.{getD-set, getD-snoc, set-keeps, within}
-use Rattle.lists.proofs.Total.{total, total-same, tally, tally-append, how-many-total, how-many-tally, length-tally}
+use Rattle.lists.proofs.Total.{total, tally, tally-append, how-many-total, how-many-tally, length-tally}
 use Rattle.rules.specs.Limits.{Limits}
-use Rattle.rules.specs.Answers.{Outcome, Verdict, _⇒_, verdict, carry, refused, done}
+use Rattle.rules.specs.Answers.{Outcome, _⇒_, verdict, carry, refused, done}
 use Rattle.rules.specs.Commands.{offered}
 use Rattle.rules.specs.Table.{Store, at, blank-publication, publication-of, payload-of}
-use Rattle.rules.specs.Conditions.{names, leased, unknown}
+use Rattle.rules.specs.Conditions.{names, unknown}
 use Rattle.rules.specs.Changes.{published, adopted, hidden, reclaimed}
-use Rattle.rules.specs.Rows.{tests, result, effect, step, retained-count}
+use Rattle.rules.specs.Rows.{tests, result, effect, step}
 use Rattle.rules.specs.Broker.{Broker, Event, tells, run, told}
 use Rattle.rules.specs.History.{follow, frees, accepted, handed-back, times, among, given-out, holding, outstanding, unreleased}
 use Rattle.rules.specs.Demand2.{by-the-rows}

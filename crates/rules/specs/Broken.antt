@@ -17,7 +17,6 @@ use Rattle.rules.specs.Broker.{Broker}
 use Rattle.rules.specs.declared.PublicationId.{PublicationId}
 use Rattle.rules.specs.declared.LeaseId.{LeaseId}
 use Rattle.rules.specs.declared.Port.{Port}
-use Rattle.rules.specs.declared.Publication.{Publication}
 use Rattle.rules.specs.declared.Domain.the-variants.{Unset}
 use Rattle.rules.specs.declared.Refusal.the-variants.{Unknown, Conflict, Visible, Released, Capacity, Absent}
 use Rattle.rules.specs.declared.Command.{Command}

@@ -3,7 +3,7 @@
 use Prim.Native.Nat.{ℕ, suc}
 use mathlib.Core.Bool.{true, false}
 use mathlib.Core.List.{List, [], _∷_, _++_}
-use lib.ListN.{length, set}
+use lib.ListN.{set}
 use Rattle.lists.specs.Search.{leave-out}
 use Rattle.rules.specs.Table.{Registry, Store, at}
 use Rattle.rules.specs.Conditions.{is-lease}

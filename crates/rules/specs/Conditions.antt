@@ -6,7 +6,7 @@ use lib.Dec.{leb, eqb}
 use lib.ListN.{length, getD}
 use Rattle.lists.specs.Search.{some-pass, first-place}
 use Rattle.rules.specs.Limits.{Limits}
-use Rattle.rules.specs.Table.{Registry, Store, blank-lease, at}
+use Rattle.rules.specs.Table.{Registry, blank-lease}
 use Rattle.rules.specs.declared.PublicationId.{PublicationId}
 use Rattle.rules.specs.declared.LeaseId.{LeaseId}
 use Rattle.rules.specs.declared.Owner.{Owner}

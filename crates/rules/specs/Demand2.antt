@@ -3,7 +3,6 @@
 use mathlib.Core.Path.{_≡_}
 use mathlib.Core.List.{List}
 use Rattle.rules.specs.Limits.{Limits}
-use Rattle.rules.specs.Answers.{Outcome}
 use Rattle.rules.specs.Table.{Store}
 use Rattle.rules.specs.Rows.{step}
 use Rattle.rules.specs.Broker.{Broker, run}

@@ -3,7 +3,7 @@
 use Prim.Native.Nat.{ℕ, suc}
 use mathlib.Core.Bool.{cond}
 use mathlib.Core.List.{List, [], _∷_, _++_}
-use lib.ListN.{length, getD}
+use lib.ListN.{getD}
 use Rattle.rules.specs.Table.{Store}
 use Rattle.rules.specs.Broker.{Event, began, ended, lent}
 use Rattle.rules.specs.declared.Publication.{Publication}

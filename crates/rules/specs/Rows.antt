@@ -1,7 +1,7 @@
 -- Order of tests and effect: document 01's table, in its order.
 -- Assumes nothing.
 use Prim.Native.Nat.{ℕ, suc}
-use mathlib.Core.Bool.{Bool, not, _&&_, _||_}
+use mathlib.Core.Bool.{not, _&&_, _||_}
 use mathlib.Core.List.{List, [], _∷_, _++_}
 use lib.Dec.{leb, eqb}
 use lib.ListN.{length}
@@ -16,9 +16,8 @@ use Rattle.rules.specs.declared.PublicationId.{PublicationId}
 use Rattle.rules.specs.declared.LeaseId.{LeaseId}
 use Rattle.rules.specs.declared.Owner.{Owner}
 use Rattle.rules.specs.declared.Port.{Port}
-use Rattle.rules.specs.declared.Publication.{Publication}
 use Rattle.rules.specs.declared.Consumer.the-variants.{Episode}
-use Rattle.rules.specs.declared.Refusal.the-variants.{Unknown, Revoked, Conflict, Relied, Visible, Released, Capacity, InvalidState, BadTable, Absent}
+use Rattle.rules.specs.declared.Refusal.the-variants.{Unknown, Revoked, Conflict, Relied, Visible, Released, Capacity, InvalidState, Absent}
 use Rattle.rules.specs.declared.Command.{Command}
 use Rattle.rules.specs.declared.Command.the-variants.{Publish, Adopt, Acquire, Release, Revoke, Replace, Reclaim, Read, Observe, Resolve, Count}
 

@@ -1,6 +1,6 @@
 -- When a table is sound: document 01's S1 to S6. (Past the end of a list stand blank records, which are neither visible nor retained.)
 -- Assumes nothing.
-use Prim.Native.Nat.{ℕ, _≤_, _<_}
+use Prim.Native.Nat.{_≤_, _<_}
 use mathlib.Core.Path.{_≡_}
 use mathlib.Core.Bool.{true, false}
 use mathlib.Core.List.{List, [], _∷_}
