@@ -7,6 +7,7 @@ pub mod Slots
 pub mod KeepsStore
 pub mod Acquisition
 pub mod VisibleTable
+pub mod VisibleAfter
 pub mod Columns
 pub mod Blanks
 pub mod TestedRegistry
@@ -14,6 +15,7 @@ pub mod TestedStore
 pub mod Called
 pub mod Along
 pub mod Linked
+pub mod Gone
 pub mod Third
 pub mod Past
 pub mod Carried
