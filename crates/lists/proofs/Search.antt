@@ -31,6 +31,16 @@ module _ {A : Type 0} (p : A → Bool) where
       go true f r h = f
       go false f r h = r h
 
+  -- and what holds of every element holds of it
+  pub first-every : (P : A → Type 0) (xs : List A) (d : A) → Every P xs → some-pass p xs ≡ true → P (getD xs (first-place p xs) d)
+  first-every P [] d h e = absurd (false≢true e)
+  first-every P (x ∷ xs) d h e = go (p x) (first-every P xs d (h .1)) e
+    where
+      go : (b : Bool) → (some-pass p xs ≡ true → P (getD xs (first-place p xs) d)) → (b || some-pass p xs) ≡ true
+          → P (getD (x ∷ xs) (cond b 0 (suc (first-place p xs))) d)
+      go true r e = h .0
+      go false r e = r e
+
   -- whoever stands at a place and passes is found
   pub found : (xs : List A) (d : A) → p d ≡ false → (i : ℕ) → p (getD xs i d) ≡ true → some-pass p xs ≡ true
   found [] d n i e = absurd (false≢true (sym n ∙ e))

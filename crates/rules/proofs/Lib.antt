@@ -22,3 +22,4 @@ pub mod Carried
 pub mod Calling
 pub mod Refuted
 pub mod Drain
+pub mod LeftBehind

@@ -76,7 +76,7 @@ changing freed ended s Count = s
 
 -- the right parts
 
-abbrev release-right : Store → LeaseId → Store
+abbrev pub release-right : Store → LeaseId → Store
 release-right s i = effect s (Release i)
 
 abbrev reclaim-right : Store → PublicationId → Store
@@ -95,7 +95,7 @@ drop-all-leases s i =
     with-registry s
     (record { domain = s .registry .domain; publications = s .registry .publications; leases = []; counter = s .registry .counter })
 
-abbrev leave-the-handle : Store → PublicationId → Store
+abbrev pub leave-the-handle : Store → PublicationId → Store
 leave-the-handle s p = with-registry s (change (s .registry) p reclaimed)
 
 -- the brokers
