@@ -7,9 +7,9 @@ use mathlib.Core.List.{List, [], _∷_}
 use mathlib.Core.Option.{none, some}
 use native.Mathlib.Omega.{arith}
 use Rattle.rules.specs.Limits.{box}
-use Rattle.rules.specs.Table.{Store, empty-store}
-use Rattle.rules.specs.Changes.{published}
+use Rattle.rules.specs.Table.{Store}
 use Rattle.rules.specs.Rows.{step}
+use Rattle.rules.specs.Probes.{publish, acquire, release, revoke, replace, reclaim, read, empty, given}
 use Rattle.rules.specs.Broker.{events, run, told}
 use Rattle.rules.specs.History.{holding}
 use Rattle.rules.specs.Demand2.{Demand2, Demand2-table, by-the-rows}
@@ -17,55 +17,31 @@ use Rattle.rules.specs.Demand3.{Demand3}
 use Rattle.rules.specs.Broken.{refuses-everything, tests-port-against-retained, answers-6-for-never-given, reclaims-under-lease, hands-back-the-same, hands-back-the-new, invents-the-count, releases-nothing, releases-all, leaves-the-handle-behind, idle, idle-answer}
 use Rattle.rules.specs.declared.PublicationId.{PublicationId}
 use Rattle.rules.specs.declared.LeaseId.{LeaseId}
-use Rattle.rules.specs.declared.Domain.the-variants.{Unset}
 use Rattle.rules.specs.declared.Command.{Command}
 use Rattle.rules.specs.declared.Command.the-variants.{Publish, Adopt, Acquire, Release, Revoke, Replace, Reclaim, Read, Observe, Resolve, Count}
 
--- the commands, with plain numbers
-
-abbrev pub publish : ℕ → ℕ → ℕ → Command
-publish o q v = Publish (record { 0 = o }) 0 (record { 0 = q }) v
-
-abbrev pub acquire : ℕ → ℕ → Command
-acquire p o = Acquire (record { 0 = p }) (record { 0 = o }) 1
-
-abbrev pub replace : ℕ → ℕ → ℕ → Command
-replace p o v = Replace (record { 0 = p }) (record { 0 = o }) 0 v
-
-abbrev pub revoke : ℕ → Command
-revoke p = Revoke (record { 0 = p })
-
-abbrev pub reclaim : ℕ → Command
-reclaim p = Reclaim (record { 0 = p })
-
-abbrev pub release : ℕ → Command
-release i = Release (record { 0 = i })
-
 abbrev pub zeroth : PublicationId
 zeroth = record { 0 = 0 }
-
-abbrev empty : Store
-empty = empty-store Unset
 
 -- the second demand: one answer that is not that of the rows
 
 pub refuses-everything-fails : ¬ Demand2 box empty (refuses-everything box)
 unfolding run step
-refuses-everything-fails d = let e = d [] (publish 4 7 900) in let z : _≡_ {A = ℕ} 0 1 = cc in omega arith
+refuses-everything-fails d = let e = d [] (publish 4 0 7 900) in let z : _≡_ {A = ℕ} 0 1 = cc in omega arith
 
 pub tests-port-against-retained-fails : ¬ Demand2 box empty (tests-port-against-retained box)
 unfolding run step
 tests-port-against-retained-fails d =
-    let e = d (publish 4 7 900 ∷ revoke 0 ∷ []) (publish 5 7 901) in let z : _≡_ {A = ℕ} 0 1 = cc in omega arith
+    let e = d (publish 4 0 7 900 ∷ revoke 0 ∷ []) (publish 5 0 7 901) in let z : _≡_ {A = ℕ} 0 1 = cc in omega arith
 
 pub answers-6-for-never-given-fails : ¬ Demand2 box empty (answers-6-for-never-given box)
 unfolding run step
-answers-6-for-never-given-fails d = let e = d [] (Read (record { 0 = 5 })) in let z : _≡_ {A = ℕ} 6 1 = cc in omega arith
+answers-6-for-never-given-fails d = let e = d [] (read 5) in let z : _≡_ {A = ℕ} 6 1 = cc in omega arith
 
 pub releases-nothing-fails-second : ¬ Demand2 box empty (releases-nothing box)
 unfolding run step
 releases-nothing-fails-second d =
-    let e = d (publish 4 7 900 ∷ acquire 0 5 ∷ release 0 ∷ acquire 0 5 ∷ []) (Read (record { 0 = 0 })) in
+    let e = d (publish 4 0 7 900 ∷ acquire 0 5 1 ∷ release 0 ∷ acquire 0 5 1 ∷ []) (read 0) in
     let z : _≡_ {A = ℕ} 0 1 = cc in
     omega arith
 
@@ -74,7 +50,7 @@ releases-nothing-fails-second d =
 pub leaves-the-handle-behind-fails : ¬ Demand2-table box empty (leaves-the-handle-behind box) (λ s. s)
 unfolding run step
 leaves-the-handle-behind-fails d =
-    let e : _≡_ {A = List ℕ} (900 ∷ []) (0 ∷ []) = ap (λ (s : Store). s .payloads) (d (publish 4 7 900 ∷ revoke 0 ∷ reclaim 0 ∷ [])) in
+    let e : _≡_ {A = List ℕ} (900 ∷ []) (0 ∷ []) = ap (λ (s : Store). s .payloads) (d (publish 4 0 7 900 ∷ revoke 0 ∷ reclaim 0 ∷ [])) in
     let z : _≡_ {A = ℕ} 900 0 = cc in
     omega arith
 
@@ -89,56 +65,43 @@ some-lease e = let z : _≡_ {A = ℕ} 0 1 = cc in omega arith
 pub hands-back-the-same-fails : ¬ Demand3 [] (hands-back-the-same box)
 unfolding run told
 hands-back-the-same-fails d =
-    let e = d .returned (publish 4 7 901 ∷ []) [] zeroth 901 (record { stands = some-handle; carried-out = refl }) refl refl in
+    let e = d .returned (publish 4 0 7 901 ∷ []) [] zeroth 901 (record { stands = some-handle; carried-out = refl }) refl refl in
     let z : _≡_ {A = ℕ} 900 901 = cc in
     omega arith
 
 pub releases-nothing-fails : ¬ Demand3 [] (releases-nothing box)
 unfolding run told
 releases-nothing-fails d =
-    let e = d .returned (publish 4 7 900 ∷ acquire 0 5 ∷ []) (release 0 ∷ []) zeroth 900 (record { stands = some-handle; carried-out = refl }) refl refl in
+    let e = d .returned (publish 4 0 7 900 ∷ acquire 0 5 1 ∷ []) (release 0 ∷ []) zeroth 900 (record { stands = some-handle; carried-out = refl }) refl refl in
     let z : _≡_ {A = ℕ} 0 1 = cc in
     omega arith
 
 pub releases-all-fails : ¬ Demand3 [] (releases-all box)
 unfolding run told
 releases-all-fails d =
-    let e = d .relied (publish 4 7 900 ∷ acquire 0 5 ∷ acquire 0 6 ∷ []) (release 0 ∷ []) zeroth (record { stands = some-handle; carried-out = refl }) some-lease in
+    let e = d .relied (publish 4 0 7 900 ∷ acquire 0 5 1 ∷ acquire 0 6 1 ∷ []) (release 0 ∷ []) zeroth (record { stands = some-handle; carried-out = refl }) some-lease in
     let z : _≡_ {A = ℕ} 0 1 = cc in
     omega arith
 
 pub reclaims-under-lease-fails : ¬ Demand3 [] (reclaims-under-lease box)
 unfolding run told
 reclaims-under-lease-fails d =
-    let e = d .relied (publish 4 7 900 ∷ acquire 0 5 ∷ []) [] zeroth (record { stands = some-handle; carried-out = refl }) some-lease in
+    let e = d .relied (publish 4 0 7 900 ∷ acquire 0 5 1 ∷ []) [] zeroth (record { stands = some-handle; carried-out = refl }) some-lease in
     let z : _≡_ {A = ℕ} 0 1 = cc in
     omega arith
 
 pub hands-back-the-new-fails : ¬ Demand3 [] (hands-back-the-new box)
 unfolding run told
 hands-back-the-new-fails d =
-    let e : _≡_ {A = ℕ} 1 0 = d .ledger (publish 4 7 900 ∷ replace 0 4 901 ∷ []) 900 in omega arith
+    let e : _≡_ {A = ℕ} 1 0 = d .ledger (publish 4 0 7 900 ∷ replace 0 4 0 901 ∷ []) 900 in omega arith
 
 pub invents-the-count-fails : ¬ Demand3 [] (invents-the-count box)
 unfolding run told
 invents-the-count-fails d =
-    let e = d .counted (publish 4 7 900 ∷ revoke 0 ∷ reclaim 0 ∷ []) in let z : _≡_ {A = ℕ} 1 0 = cc in omega arith
+    let e = d .counted (publish 4 0 7 900 ∷ revoke 0 ∷ reclaim 0 ∷ []) in let z : _≡_ {A = ℕ} 1 0 = cc in omega arith
 
 -- a store that is said to start empty, and has a handle in it
-abbrev one-inside : Store
-one-inside =
-    record {
-      registry = record {
-        domain = Unset;
-        publications = published (record { 0 = 4 }) 0 (record { 0 = 7 }) 0 ∷ [];
-        leases = [];
-        counter = 0;
-      };
-      payloads = 900 ∷ [];
-      revisions = 0 ∷ [];
-    }
-
-pub starts-with-one-fails : ¬ Demand3 [] (by-the-rows box one-inside)
+pub starts-with-one-fails : ¬ Demand3 [] (by-the-rows box (given 0 0))
 unfolding run told step
 starts-with-one-fails d =
     let e : _≡_ {A = List ℕ} (900 ∷ []) [] = d .no-other [] zeroth refl in let z : _≡_ {A = ℕ} 0 1 = cc in omega arith
@@ -175,4 +138,4 @@ idle-meets-third =
 
 pub idle-fails-second : ¬ Demand2 box empty idle
 unfolding run step
-idle-fails-second d = let e = d [] (publish 4 7 900) in let z : _≡_ {A = ℕ} 0 1 = cc in omega arith
+idle-fails-second d = let e = d [] (publish 4 0 7 900) in let z : _≡_ {A = ℕ} 0 1 = cc in omega arith

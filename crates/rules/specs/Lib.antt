@@ -21,3 +21,7 @@ pub mod Demand2
 pub mod Demand3
 pub mod Past
 pub mod Broken
+pub mod Probes
+pub mod Cases
+pub mod Neighbours
+pub mod Damaged
