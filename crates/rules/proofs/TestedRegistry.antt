@@ -49,13 +49,13 @@ rising-at (l ∷ ls) r (suc i) h = rising-at ls (r .1) i (le-of-suc-le-suc h)
 
 module _ (L : Limits) (c : RegistryColumns) where
   abbrev clauses : List Bool
-  clauses = s1-test L c ∷ s2-test L c ∷ s3-test L c ∷ s4-test L c ∷ s6-registry-test L c ∷ []
+  clauses = s1-test L c ∷ s2-test c ∷ s3-test c ∷ s4-test c ∷ s6-registry-test L c ∷ []
 
   abbrev rooms : List Bool
   rooms = leb (c .count) (L .publications) ∷ leb (c .active) (L .leases) ∷ leb (c .active) (c .counter) ∷ []
 
   abbrev clashes : List Bool
-  clashes = apart L c same-port ∷ apart L c same-slot ∷ []
+  clashes = apart c same-port ∷ apart c same-slot ∷ []
 
   abbrev rests : List Bool
   rests =
@@ -100,19 +100,19 @@ module _ (L : Limits) (t : Registry) where
     λ s. whole (rooms L columns) (le-leb _ _ (s .publication-room), (le-leb _ _ (s .lease-room), (le-leb _ _ (s .given-out), tt))),
   )
 
-  s2-tested : (s2-test L columns ≡ true) ↔ S2 t
+  s2-tested : (s2-test columns ≡ true) ↔ S2 t
   s2-tested = (
     λ e p v. implied _ _ (below-at (λ i. implies (shown i .visible) (shown i .retained)) count (simp getD-padded at e) (p .0) (visible-within (p .0) v)) v,
     λ s. simp getD-padded (below-is _ count (λ i h. imply _ _ (s (identifier i)))),
   )
 
-  ports-tested : (apart L columns same-port ≡ true) ↔ Apart (λ i. shown i .visible) (λ i. shown i .port .0)
+  ports-tested : (apart columns same-port ≡ true) ↔ Apart (λ i. shown i .visible) (λ i. shown i .port .0)
   ports-tested = simp getD-padded (apart-tested (λ i. shown i .visible) (λ i. shown i .port .0) count visible-within)
 
-  slots-tested : (apart L columns same-slot ≡ true) ↔ Apart (λ i. shown i .retained) (λ i. shown i .slot)
+  slots-tested : (apart columns same-slot ≡ true) ↔ Apart (λ i. shown i .retained) (λ i. shown i .slot)
   slots-tested = simp getD-padded (apart-tested (λ i. shown i .retained) (λ i. shown i .slot) count retained-within)
 
-  s3-tested : (s3-test L columns ≡ true) ↔ S3 t
+  s3-tested : (s3-test columns ≡ true) ↔ S3 t
   s3-tested = (
     λ e.
         let m = parts (clashes L columns) e in
@@ -129,12 +129,12 @@ module _ (L : Limits) (t : Registry) where
 
   abbrev lease-tests : ℕ → List Bool
   lease-tests i =
-      leb (least L columns i) (lent i .id .0)
+      leb (least columns i) (lent i .id .0)
       ∷ ltb (lent i .id .0) (t .counter)
       ∷ at (t .publications) (lent i .publication) .retained
       ∷ []
 
-  s4-tested : (s4-test L columns ≡ true) ↔ S4 t
+  s4-tested : (s4-test columns ≡ true) ↔ S4 t
   s4-tested = (
     λ e.
         record {
@@ -152,10 +152,10 @@ module _ (L : Limits) (t : Registry) where
         ))),
   )
     where
-      passing : s4-test L columns ≡ true → (i : ℕ) → i < length (t .leases) → Passing (lease-tests i)
+      passing : s4-test columns ≡ true → (i : ℕ) → i < length (t .leases) → Passing (lease-tests i)
       passing e i h = parts (lease-tests i) (below-at (λ i. every (lease-tests i)) (length (t .leases)) (simp getD-padded at e) i h)
 
-      risen : Rising (t .leases) → (i : ℕ) → i < length (t .leases) → least L columns i ≤ lent i .id .0
+      risen : Rising (t .leases) → (i : ℕ) → i < length (t .leases) → least columns i ≤ lent i .id .0
       risen r zero h = omega arith
       risen r (suc i) h = simp getD-padded (rising-at (t .leases) r i h)
 

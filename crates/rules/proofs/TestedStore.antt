@@ -27,7 +27,7 @@ use Rattle.rules.proofs.TestedRegistry.{filled-registry-tested, registr
 
 module _ (L : Limits) (c : StoreColumns) where
   abbrev clauses : List Bool
-  clauses = registry-test L (c .registry) ∷ s5-test L c ∷ s6-test L c ∷ []
+  clauses = registry-test L (c .registry) ∷ s5-test c ∷ s6-test L c ∷ []
 
   abbrev rest-of : List ℕ → Bool
   rest-of xs = rest-blank (L .publications) (c .registry .count) (λ n. eqb n 0) 0 xs
@@ -50,7 +50,7 @@ module _ (L : Limits) (s : Store) where
       ∷ (publication-of s (record { 0 = i }) .retained || eqb (payload-of s (record { 0 = i })) 0)
       ∷ []
 
-  s5-is : S5 s → s5-test L columns ≡ true
+  s5-is : S5 s → s5-test columns ≡ true
   s5-is k =
       simp getD-padded
       (below-is (λ i. every (cell-tests i)) count
@@ -71,7 +71,7 @@ module _ (L : Limits) (s : Store) where
   filled-is k = whole (clauses L columns) (filled-registry-tested L (s .registry) .1 (k .registry), (s5-is (k .s5), (s6-is k, tt)))
 
   module _ (payload-each : length (s .payloads) ≡ count) (revision-each : length (s .revisions) ≡ count) where
-    s5-at : s5-test L columns ≡ true → S5 s
+    s5-at : s5-test columns ≡ true → S5 s
     s5-at e =
         record {
           slots = λ p h. eqb-true _ _ (passing (p .0) h .0);

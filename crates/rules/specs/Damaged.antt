@@ -131,12 +131,12 @@ failing (k ∷ ks) = cond (k .1) (failing ks) (k .0 ∷ failing ks)
 
 abbrev pub registry-failing : RegistryColumns → List ℕ
 registry-failing c =
-    failing ((1, s1-test box c) ∷ (2, s2-test box c) ∷ (3, s3-test box c) ∷ (4, s4-test box c) ∷ (6, s6-registry-test box c) ∷ [])
+    failing ((1, s1-test box c) ∷ (2, s2-test c) ∷ (3, s3-test c) ∷ (4, s4-test c) ∷ (6, s6-registry-test box c) ∷ [])
 
 abbrev pub store-failing : StoreColumns → List ℕ
 store-failing c =
-    failing ((1, s1-test box (c .registry)) ∷ (2, s2-test box (c .registry)) ∷ (3, s3-test box (c .registry)) ∷ (4, s4-test box (c .registry))
-    ∷ (5, s5-test box c) ∷ (6, every (s6-registry-test box (c .registry) ∷ s6-test box c ∷ [])) ∷ [])
+    failing ((1, s1-test box (c .registry)) ∷ (2, s2-test (c .registry)) ∷ (3, s3-test (c .registry)) ∷ (4, s4-test (c .registry))
+    ∷ (5, s5-test c) ∷ (6, every (s6-registry-test box (c .registry) ∷ s6-test box c ∷ [])) ∷ [])
 
 -- what stands beside a 9
 

@@ -69,8 +69,12 @@ abbrev pub lease-capacity : Limits → Registry → ℕ → List Test
 lease-capacity L t n =
     (not (leb (t .counter + n) (L .top) && leb (length (t .leases) + n) (L .leases)) ⇒ Capacity) ∷ []
 
+-- publish: 7, 3; the slot must be free as well
+abbrev pub slot-publish-row : Limits → Registry → Port → ℕ → List Test
+slot-publish-row L t q s = (full t L ⇒ Capacity) ∷ (port-held t q || slot-held t s ⇒ Conflict) ∷ []
+
 abbrev pub call-tests : Limits → Registry → Call → List Test
-call-tests L t (publish o g q s) = (full t L ⇒ Capacity) ∷ (port-held t q || slot-held t s ⇒ Conflict) ∷ []
+call-tests L t (publish o g q s) = slot-publish-row L t q s
 call-tests L t (can-adopt p o g) = adopt-row L t p o g
 call-tests L t (adopt p o g) = adopt-row L t p o g
 call-tests L t (check-lease-capacity n) = lease-capacity L t n

@@ -46,15 +46,15 @@ same-port e f = (e .visible && f .visible) && eqb (e .port .0) (f .port .0)
 abbrev pub same-slot : Publication → Publication → Bool
 same-slot e f = (e .retained && f .retained) && eqb (e .slot) (f .slot)
 
-module _ (L : Limits) (c : RegistryColumns) where
+abbrev pub s1-test : Limits → RegistryColumns → Bool
+s1-test L c = every (leb (c .count) (L .publications) ∷ leb (c .active) (L .leases) ∷ leb (c .active) (c .counter) ∷ [])
+
+module _ (c : RegistryColumns) where
   abbrev pub record-at : ℕ → Publication
   record-at i = getD (c .publications) i blank-publication
 
   abbrev pub lease-at : ℕ → Lease
   lease-at i = getD (c .leases) i blank-lease
-
-  abbrev pub s1-test : Bool
-  s1-test = every (leb (c .count) (L .publications) ∷ leb (c .active) (L .leases) ∷ leb (c .active) (c .counter) ∷ [])
 
   abbrev pub s2-test : Bool
   s2-test = each-below (c .count) (λ i. implies (record-at i .visible) (record-at i .retained))
@@ -77,6 +77,7 @@ module _ (L : Limits) (c : RegistryColumns) where
       (λ i.
       every (leb (least i) (lease-at i .id .0) ∷ ltb (lease-at i .id .0) (c .counter) ∷ at (c .publications) (lease-at i .publication) .retained ∷ []))
 
+module _ (L : Limits) (c : RegistryColumns) where
   abbrev pub s6-registry-test : Bool
   s6-registry-test =
       every
@@ -85,15 +86,15 @@ module _ (L : Limits) (c : RegistryColumns) where
       ∷ [])
 
   unfoldable pub registry-test : Bool
-  registry-test = every (s1-test ∷ s2-test ∷ s3-test ∷ s4-test ∷ s6-registry-test ∷ [])
+  registry-test = every (s1-test L c ∷ s2-test c ∷ s3-test c ∷ s4-test c ∷ s6-registry-test ∷ [])
+
+abbrev pub s5-test : StoreColumns → Bool
+s5-test c =
+    each-below (c .registry .count)
+    (λ i.
+    every (eqb (record-at (c .registry) i .slot) i ∷ (record-at (c .registry) i .retained || eqb (getD (c .payloads) i 0) 0) ∷ []))
 
 module _ (L : Limits) (c : StoreColumns) where
-  abbrev pub s5-test : Bool
-  s5-test =
-      each-below (c .registry .count)
-      (λ i.
-      every (eqb (record-at L (c .registry) i .slot) i ∷ (record-at L (c .registry) i .retained || eqb (getD (c .payloads) i 0) 0) ∷ []))
-
   abbrev pub s6-test : Bool
   s6-test =
       every
@@ -102,4 +103,4 @@ module _ (L : Limits) (c : StoreColumns) where
       ∷ [])
 
   unfoldable pub store-test : Bool
-  store-test = every (registry-test L (c .registry) ∷ s5-test ∷ s6-test ∷ [])
+  store-test = every (registry-test L (c .registry) ∷ s5-test c ∷ s6-test ∷ [])
