@@ -23,3 +23,4 @@ pub mod Calling
 pub mod Refuted
 pub mod Drain
 pub mod LeftBehind
+pub mod Responses

@@ -25,3 +25,4 @@ pub mod Probes
 pub mod Cases
 pub mod Neighbours
 pub mod Damaged
+pub mod Responses

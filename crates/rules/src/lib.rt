@@ -117,3 +117,18 @@ pub struct Leased {
     pub id: PublicationId,
     pub handle: u64,
 }
+
+// What any command is answered, in one type for all of them.
+pub enum Response {
+    // Refused; and refused with the offered handle back.
+    Refused(Refusal),
+    Returned(Refusal, u64),
+    // Carried out: with nothing to tell, an identifier, a lease, the handle handed back, what was read, what was observed, a number.
+    Done,
+    Id(PublicationId),
+    Lease(LeaseId),
+    Handle(u64),
+    Read(Reading),
+    Observed(Observation),
+    Count(u64),
+}
