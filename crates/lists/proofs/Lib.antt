@@ -4,3 +4,5 @@ pub mod Search
 pub mod Every
 pub mod Column
 pub mod Total
+pub mod Append
+pub mod Numbers

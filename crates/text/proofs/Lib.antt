@@ -1,0 +1,15 @@
+pub mod Reading
+pub mod FirstByte
+pub mod Sequence
+pub mod Decimal
+pub mod Values
+pub mod Words
+pub mod Ops
+pub mod KeyLines
+pub mod Digits
+pub mod KeyTable
+pub mod ValueTurns
+pub mod WordTurns
+pub mod OpTurns
+pub mod LineTurns
+pub mod Cases
