@@ -6,3 +6,7 @@ pub mod Column
 pub mod Total
 pub mod Append
 pub mod Numbers
+pub mod Bounds
+pub mod Marks
+pub mod Removal
+pub mod Scan

@@ -2,7 +2,7 @@
 -- Assumes nothing.
 use Prim.Native.Nat.{ℕ}
 use mathlib.Core.Path.{_≡_, refl, sym}
-use mathlib.Core.Bool.{true, false, true≢false}
+use mathlib.Core.Bool.{Bool, true, false, true≢false}
 use mathlib.Core.List.{List, [], _∷_}
 use native.Mathlib.Omega.{arith}
 use Rattle.rules.specs.Answers.{Test, _⇒_, pass, stop, verdict}
@@ -24,3 +24,13 @@ pub clear-passes : (ts : List Test) → Clear ts → verdict ts ≡ pass
 clear-passes [] k = refl
 clear-passes ((true ⇒ r) ∷ ts) k = absurd (true≢false (k .0))
 clear-passes ((false ⇒ r) ∷ ts) k = clear-passes ts (k .1)
+
+-- of a row that passes, each test fails
+
+pub not-first : (b : Bool) (r : Refusal) (ts : List Test) → verdict ((b ⇒ r) ∷ ts) ≡ pass → b ≡ false
+not-first true r ts e = cc
+not-first false r ts e = refl
+
+pub not-later : (b : Bool) (r : Refusal) (ts : List Test) → verdict ((b ⇒ r) ∷ ts) ≡ pass → verdict ts ≡ pass
+not-later true r ts e = cc
+not-later false r ts e = e

@@ -1,4 +1,5 @@
 pub mod Clear
+pub mod Leaving
 pub mod Refusals
 pub mod KeepsPublications
 pub mod KeepsLeases

@@ -1,4 +1,4 @@
--- Document 01's bench examples P1 to P12, as one table of cases under one claim; its whole case; and what stands next to them.
+-- Document 01's bench examples P1 to P12, as one table of cases under one claim; and its whole case.
 -- Assumes nothing.
 use Prim.Native.Nat.{_+_}
 use mathlib.Core.List.{List, [], _∷_}

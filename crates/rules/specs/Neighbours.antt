@@ -1,4 +1,4 @@
--- Document 01's bench examples P1 to P12, as one table of cases under one claim; its whole case; and what stands next to them.
+-- What stands next to the bench examples: which test refuses where two hold, the numbers of each row, the names, and a whole table.
 -- Assumes nothing.
 use Prim.Native.Nat.{ℕ}
 use mathlib.Core.Path.{_≡_, refl}

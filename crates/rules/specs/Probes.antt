@@ -1,4 +1,4 @@
--- Document 01's bench examples P1 to P12, as one table of cases under one claim; its whole case; and what stands next to them.
+-- How an example is written down: commands with plain numbers, and what each must answer.
 -- Assumes nothing.
 use Prim.Native.Nat.{ℕ, zero, suc}
 use mathlib.Core.Bool.{Bool, true, false, _&&_}

@@ -1,0 +1,21 @@
+-- `acquire` meets its contract: the inner call on a sound registry, BadTable on any other.
+-- Assumes nothing.
+use mathlib.Core.Path.{sym, ap, _∙_}
+use borrow.Author.Needs.{needs}
+use Rattle.rules.specs.Limits.{box}
+use Rattle.rules.specs.declared.Consumer.the-variants.{Nobody}
+use Rattle.rules.specs.RegistryRows.{acquire}
+use Rattle.registry.specs.Columns.{columnsOf}
+use Rattle.registry.specs.Answers.{acquiredOf}
+use Rattle.registry.proofs.Guard.{sound-when, call-when, call-unless}
+use Rattle.registry.proofs.PublicationRegistry.acquire.Statement.{statement}
+use Rattle.registry.proofs.PublicationRegistry.acquire.Tie as tie
+
+pub acquire-spec : {M : Type 1} → statement M
+acquire-spec =
+    tie.close
+    (tie.spec
+    (λ c κs. search needs)
+    (λ c κs. sound-when box (columnsOf (c .before .before .args .self)) (c .before .is-sound .ensures) (c .if1 .taken))
+    (λ c. c .acquire .ensures ∙ sym (ap acquiredOf (call-when box (columnsOf (c .before .before .before .args .self)) (c .before .before .is-sound .ensures) (acquire (c .before .before .before .args .id) Nobody) (c .before .if1 .taken))))
+    (λ c. sym (ap acquiredOf (call-unless box (columnsOf (c .before .before .args .self)) (c .before .is-sound .ensures) (acquire (c .before .before .args .id) Nobody) (c .if1 .left)))))

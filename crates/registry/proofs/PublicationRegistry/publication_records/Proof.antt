@@ -1,0 +1,20 @@
+-- `publication_records` meets its contract: the inner call on a sound registry, BadTable on any other.
+-- Assumes nothing.
+use mathlib.Core.Path.{sym, ap, _∙_}
+use borrow.Author.Needs.{needs}
+use Rattle.rules.specs.Limits.{box}
+use Rattle.rules.specs.RegistryRows.{publication-records}
+use Rattle.registry.specs.Columns.{columnsOf}
+use Rattle.registry.specs.Answers.{countAnswerOf}
+use Rattle.registry.proofs.Guard.{sound-when, answer-when, answer-unless}
+use Rattle.registry.proofs.PublicationRegistry.publication_records.Statement.{statement}
+use Rattle.registry.proofs.PublicationRegistry.publication_records.Tie as tie
+
+pub publication-records-spec : {M : Type 1} → statement M
+publication-records-spec =
+    tie.close
+    (tie.spec
+    (λ c κs. search needs)
+    (λ c κs. sound-when box (columnsOf (c .before .before .args .self)) (c .before .is-sound .ensures) (c .if1 .taken))
+    (λ c. c .publication-records .ensures ∙ sym (ap countAnswerOf (answer-when box (columnsOf (c .before .before .before .args .self)) (c .before .before .is-sound .ensures) publication-records (c .before .if1 .taken))))
+    (λ c. sym (ap countAnswerOf (answer-unless box (columnsOf (c .before .before .args .self)) (c .before .is-sound .ensures) publication-records (c .if1 .left)))))

@@ -1,0 +1,3 @@
+pub mod Different
+pub mod Refused
+pub mod Tight

@@ -1,0 +1,17 @@
+pub mod Told
+pub mod Plain
+pub mod RegistryCalls
+pub mod StoreQueries
+pub mod Asked
+pub mod Examples
+pub mod Tables
+pub mod Mistakes
+pub mod Wrong
+pub mod WrongPublications
+pub mod WrongLeases
+pub mod WrongQueries
+pub mod WrongRegistryPublications
+pub mod WrongRegistryLeases
+pub mod WrongRegistryQueries
+pub mod WrongMakers
+pub mod WrongCell
