@@ -1,7 +1,7 @@
 -- The clauses of the soundness test, place by place: what the test asks of each record.
 -- Assumes nothing.
 use Prim.Native.Nat.{ℕ, _+_, _-_, _≤_, _<_}
-use mathlib.Core.Path.{_≡_, refl, sym}
+use mathlib.Core.Path.{_≡_, sym}
 use mathlib.Core.Bool.{Bool, true, false, not}
 use mathlib.Core.List.{List, [], _∷_}
 use native.Mathlib.Omega.{arith}
@@ -9,6 +9,7 @@ use borrow.Author.Tests.{leb-true, le-leb, eqb-true, eq-eqb, not-true}
 use lib.Dec.{leb, ltb, eqb}
 use lib.ListN.{length, getD}
 use Rattle.lists.specs.Every.{every, each-below, implies}
+use Rattle.lists.proofs.Bools.{never-true}
 use Rattle.lists.proofs.Every.{Passing, parts, whole, below-at, below-is}
 use Rattle.rules.specs.Limits.{Limits}
 use Rattle.rules.specs.Table.{blank-publication, blank-lease, at}
@@ -129,8 +130,4 @@ module _ (L : Limits) (c : RegistryColumns) where
 
   -- some clause fails: so does the test
   pub wrong : (Clauses L c → ⊥) → false ≡ registry-test L c
-  wrong f = go (registry-test L c) refl
-    where
-      go : (b : Bool) → registry-test L c ≡ b → false ≡ b
-      go true e = absurd (f (clauses e))
-      go false e = refl
+  wrong f = sym (never-true (registry-test L c) (λ e. f (clauses e)))

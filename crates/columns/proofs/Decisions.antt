@@ -7,7 +7,7 @@ use mathlib.Core.List.{List, [], _∷_, _++_}
 use borrow.Author.Tests.{le-leb, lt-leb}
 use lib.Dec.{leb, eqb}
 use lib.ListN.{length, take}
-use Rattle.lists.proofs.Scan.{length-first}
+use Rattle.lists.proofs.Scan.{length-take-sized}
 use Rattle.rules.specs.Limits.{Limits}
 use Rattle.rules.specs.Answers as rows
 use Rattle.rules.specs.Answers.{Test, _⇒_, verdict}
@@ -32,10 +32,10 @@ use Rattle.columns.proofs.Verdicts.{told-pass, told-stop}
 -- whether an identifier was given out, where the first n of an array are in use
 module _ {A : Type 0} (n size : ℕ) (l : List A) (fits : n ≤ size) (long : length l ≡ size) {i : ℕ} where
   pub is-unknown : n ≤ i → leb (length (take n l)) i ≡ true
-  is-unknown h = rw (length-first n size l fits long) (le-leb n i h)
+  is-unknown h = rw (length-take-sized n size l fits long) (le-leb n i h)
 
   pub is-known : i < n → leb (length (take n l)) i ≡ false
-  is-known h = rw (length-first n size l fits long) (lt-leb n i h)
+  is-known h = rw (length-take-sized n size l fits long) (lt-leb n i h)
 
 -- tests before others: what stops there stops the whole, and what passes there leaves it to the others
 

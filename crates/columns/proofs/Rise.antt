@@ -1,7 +1,7 @@
 -- The walk of the soundness test over the leases.
 -- Assumes nothing.
 use Prim.Native.Nat.{ℕ, _+_, _≤_, _<_}
-use mathlib.Core.Path.{_≡_, refl}
+use mathlib.Core.Path.{_≡_, refl, _∙_}
 use mathlib.Core.Bool.{Bool, true, _&&_}
 use native.Mathlib.Numerals.{add-one}
 use native.Mathlib.Omega.{arith}
@@ -33,11 +33,11 @@ module _ (L : Limits) (c : RegistryColumns) where
   id-below bound k e = ltb-true _ _ (and-right (leb bound (lease-at c k .id .0)) (ltb (lease-at c k .id .0) (c .counter)) e)
 
   pub rise-on : {bound k : ℕ} → Rise bound k → k < c .active → in-order bound k ≡ true → at (c .publications) (lease-at c k .publication) .retained ≡ true
-      → Rise (lease-at c k .id .0 + 1) (k + 1)
-  rise-on {bound} {k} w h e r =
+      → {next : ℕ} → next ≡ lease-at c k .id .0 + 1 → Rise next (k + 1)
+  rise-on {bound} {k} w h e r n =
       record {
         within = omega arith;
-        floor = rw (add-one k, add-one (lease-at c k .id .0));
+        floor = rw (add-one k) (n ∙ add-one (lease-at c k .id .0));
         passed = below-more (λ j. Passing (lease-tests L c j)) k (w .passed) (
           rw (← w .floor) (and-left (leb bound (lease-at c k .id .0)) (ltb (lease-at c k .id .0) (c .counter)) e),
           (and-right (leb bound (lease-at c k .id .0)) (ltb (lease-at c k .id .0) (c .counter)) e, (r, tt)),

@@ -1,14 +1,14 @@
 -- What each finding of the test of a store says of the whole: its registry is damaged, a cell doesn't fit, or all is right.
 -- Assumes nothing.
-use Prim.Native.Nat.{ℕ, _+_, _-_, _≤_, _<_}
-use mathlib.Core.Path.{_≡_, refl, sym, _∙_}
+use Prim.Native.Nat.{ℕ, _≤_, _<_}
+use mathlib.Core.Path.{_≡_, sym, _∙_}
 use mathlib.Core.Bool.{Bool, true, false, _&&_, _||_, false≢true}
 use mathlib.Core.List.{List, [], _∷_}
 use native.Mathlib.Omega.{arith}
 use lib.Dec.{eqb}
 use lib.ListN.{length, getD}
 use Rattle.lists.specs.Every.{every}
-use Rattle.lists.proofs.Bools.{and-left, and-right}
+use Rattle.lists.proofs.Bools.{and-left, and-right, never-true}
 use Rattle.lists.proofs.Every.{parts, whole, below-at, below-is}
 use Rattle.rules.specs.Limits.{Limits}
 use Rattle.rules.specs.Table.{blank-publication}
@@ -28,6 +28,7 @@ Own es ps i = own-cell es ps i ≡ true
 abbrev pub Blank-cell : List ℕ → List ℕ → ℕ → Type 0
 Blank-cell ps rs i = (eqb (getD ps i 0) 0 && eqb (getD rs i 0) 0) ≡ true
 
+-- no more records in use than places
 pub room-of : (L : Limits) (c : RegistryColumns) → registry-test L c ≡ true → c .count ≤ L .publications
 room-of L c e = clauses L c e .room
 
@@ -39,11 +40,7 @@ module _ (L : Limits) (c : StoreColumns) where
   parts-of = registry-test L (c .registry) ∷ s5-test c ∷ s6-test L c ∷ []
 
   failing : (store-test L c ≡ true → ⊥) → false ≡ store-test L c
-  failing f = go (store-test L c) refl
-    where
-      go : (b : Bool) → store-test L c ≡ b → false ≡ b
-      go true e = absurd (f e)
-      go false e = refl
+  failing f = sym (never-true (store-test L c) f)
 
   pub damaged-registry : registry-test L (c .registry) ≡ false → false ≡ store-test L c
   unfolding store-test

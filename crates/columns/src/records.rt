@@ -29,8 +29,8 @@ use rules::Refusal;
 pub fn holds_port(e: Publication, port: Port) -> bool
     ensures { λ r. ⌜ r ≡ visible-on port e ⌝ }
 {
-    if e.visible {
-        return e.port.0 == port.0;
+    if e.port.0 == port.0 {
+        return e.visible;
     }
     false
 }
@@ -248,8 +248,8 @@ pub fn is_blank_lease(l: Lease) -> bool
 }
 
 // A cell in use belongs to its record: the slot is the identifier, and without a retained record the payload is 0.
-pub fn is_own_cell(e: Publication, id: u64, payload: u64) -> bool
-    ensures { λ r. ⌜ r ≡ every (eqb (e .slot) id ∷ (e .retained || eqb payload 0) ∷ []) ⌝ }
+pub fn is_own_cell(e: Publication, id: u64, handle: u64) -> bool
+    ensures { λ r. ⌜ r ≡ every (eqb (e .slot) id ∷ (e .retained || eqb handle 0) ∷ []) ⌝ }
 {
     if e.slot != id {
         return false;
@@ -257,7 +257,7 @@ pub fn is_own_cell(e: Publication, id: u64, payload: u64) -> bool
     if e.retained {
         return true;
     }
-    payload == 0
+    handle == 0
 }
 
 pub fn is_blank_cell(payload: u64, revision: u64) -> bool

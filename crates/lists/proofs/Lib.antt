@@ -10,3 +10,6 @@ pub mod Bounds
 pub mod Marks
 pub mod Removal
 pub mod Scan
+pub mod Below
+pub mod Ended
+pub mod Groups

@@ -17,8 +17,8 @@ pub length-of-map : (X Y : Type 0) (f : X → Y) (l : List X) (n : ℕ) → leng
 length-of-map X Y f l n e = sym (length-map l f) ∙ e
 
 -- how many are in use, of an array of a known size
-pub length-first : {A : Type 0} (n size : ℕ) (l : List A) → n ≤ size → length l ≡ size → length (take n l) ≡ n
-length-first n size l h e = length-take-le n l (rw e h)
+pub length-take-sized : {A : Type 0} (n size : ℕ) (l : List A) → n ≤ size → length l ≡ size → length (take n l) ≡ n
+length-take-sized n size l h e = length-take-le n l (rw e h)
 
 module _ {A : Type 0} (p : A → Bool) where
   -- whoever stands within the list and passes is found

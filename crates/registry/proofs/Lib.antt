@@ -3,4 +3,3 @@ pub mod Publishing
 pub mod Changing
 pub mod Leasing
 pub mod Releasing
-pub mod Guard

@@ -11,7 +11,7 @@ ghost use Rattle.rules.specs.Columns.{filled-registry};
 ghost use Rattle.rules.specs.RegistryRows.{publish, can-adopt, adopt, check-lease-capacity, acquire, leased-slot, release, revoke, reclaim, resolve, entry, lease, domain, publication-records, lease-record-count, lease-allocation-count};
 ghost use Rattle.rules.specs.Calls.{registry-call};
 ghost use Rattle.registry.specs.Columns.{columnsOf, registryOf};
-ghost use Rattle.registry.specs.Answers.{idAnswerOf, leaseIdAnswerOf, slotAnswerOf, plainOf, publicationAnswerOf, leaseAnswerOf, domainAnswerOf, countAnswerOf, publishedOf, acquiredOf, changedOf, reclaimedOf};
+ghost use Rattle.registry.specs.Answers.{idAnswerOf, slotAnswerOf, plainOf, publicationAnswerOf, leaseAnswerOf, domainAnswerOf, countAnswerOf, publishedOf, acquiredOf, changedOf, reclaimedOf};
 use rules::Consumer;
 use rules::Domain;
 use rules::Lease;

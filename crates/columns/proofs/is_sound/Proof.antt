@@ -108,7 +108,7 @@ is-sound-spec =
     omega (arith, id-below box (columnsOf (a .t1) (a .count) (a .t3) (a .active) (a .counter)) (c .before .before .before .before .before .before .before .before .loop2 .least) (c .before .before .before .before .before .before .before .before .loop2 .k) (sym (c .before .before .before .before .before .is-in-order .ensures) ∙ not-false (c .before .before .before .before .before .is-in-order .result) (c .before .before .before .before .if7 .left))))
     (λ c. omega arith)
     (λ c. omega arith)
-    (λ c. rise-on box _ (c .before .before .before .before .before .before .before .before .loop2 .inv) (c .before .before .before .before .before .before .before .loop2-test .taken) (sym (c .before .before .before .before .before .is-in-order .ensures) ∙ not-false (c .before .before .before .before .before .is-in-order .result) (c .before .before .before .before .if7 .left)) (c .before .if9 .taken))
+    (λ c. rise-on box _ (c .before .before .before .before .before .before .before .before .loop2 .inv) (c .before .before .before .before .before .before .before .loop2-test .taken) (sym (c .before .before .before .before .before .is-in-order .ensures) ∙ not-false (c .before .before .before .before .before .is-in-order .result) (c .before .before .before .before .if7 .left)) (c .before .if9 .taken) (omega arith))
     (λ c. lost box _ (c .before .before .before .before .before .before .before .loop2 .inv) (c .before .before .before .before .before .before .loop2-test .taken) (c .if9 .left))
     (λ c. (omega arith, λ j h l. absurd (omega arith)))
     (λ c. omega arith)

@@ -1,18 +1,12 @@
 -- `is_store_sound` meets its contract: each finding refutes a clause, and a walk without one shows all of them.
 -- Assumes nothing.
 use Prim.Native.Nat.{ℕ, _-_, _≤_, _<_}
-use mathlib.Core.Path.{_≡_, sym, _∙_}
-use mathlib.Core.Bool.{true}
-use mathlib.Core.List.{[], _∷_}
+use mathlib.Core.Path.{sym, _∙_}
 use native.Mathlib.Omega.{arith}
 use borrow.Author.Count.{below-none, below-more}
 use borrow.Author.Needs.{needs}
 use borrow.Author.Tests.{not-true, not-false}
-use lib.Dec.{eqb}
-use lib.ListN.{getD}
 use Rattle.lists.proofs.Scan.{length-of-map}
-use Rattle.rules.specs.Limits.{box}
-use Rattle.rules.specs.Table.{blank-publication}
 use Rattle.columns.proofs.Findings.{blank-on}
 use Rattle.columns.proofs.StoreFindings.{Own, Blank-cell, damaged-registry, room-of, not-own, not-blank-cell, store-right}
 use Rattle.columns.proofs.is_store_sound.Statement.{statement}

@@ -1,12 +1,10 @@
 -- `domain` meets its contract: the inner call on a sound registry, BadTable on any other.
 -- Assumes nothing.
-use mathlib.Core.Path.{sym, ap, _∙_}
+use mathlib.Core.Path.{sym, _∙_}
 use borrow.Author.Needs.{needs}
 use Rattle.rules.specs.Limits.{box}
-use Rattle.rules.specs.RegistryRows.{domain}
-use Rattle.registry.specs.Columns.{columnsOf}
-use Rattle.registry.specs.Answers.{domainAnswerOf}
-use Rattle.registry.proofs.Guard.{answer-when, answer-unless}
+use Rattle.rules.proofs.TestedRegistry.{registry-tested}
+use Rattle.rules.proofs.Called.{call-sound, call-damaged}
 use Rattle.registry.proofs.PublicationRegistry.domain.Statement.{statement}
 use Rattle.registry.proofs.PublicationRegistry.domain.Tie as tie
 
@@ -16,5 +14,5 @@ domain-spec =
     (tie.spec
     (λ c κs. search needs)
     (λ c κs. search needs)
-    (λ c. c .domain .ensures ∙ sym (ap domainAnswerOf (answer-when box (columnsOf (c .before .before .before .args .self)) (c .before .before .is-sound .ensures) domain (c .before .if1 .taken))))
-    (λ c. sym (ap domainAnswerOf (answer-unless box (columnsOf (c .before .before .args .self)) (c .before .is-sound .ensures) domain (c .if1 .left)))))
+    (λ c. rw (call-sound box _ _ (registry-tested box _ .0 (sym (c .before .before .is-sound .ensures) ∙ c .before .if1 .taken))) (c .domain .ensures))
+    (λ c. rw (call-damaged box _ _ (sym (c .before .is-sound .ensures) ∙ c .if1 .left))))

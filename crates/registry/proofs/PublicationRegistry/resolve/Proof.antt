@@ -1,12 +1,10 @@
 -- `resolve` meets its contract: the inner call on a sound registry, BadTable on any other.
 -- Assumes nothing.
-use mathlib.Core.Path.{sym, ap, _∙_}
+use mathlib.Core.Path.{sym, _∙_}
 use borrow.Author.Needs.{needs}
 use Rattle.rules.specs.Limits.{box}
-use Rattle.rules.specs.RegistryRows.{resolve}
-use Rattle.registry.specs.Columns.{columnsOf}
-use Rattle.registry.specs.Answers.{idAnswerOf}
-use Rattle.registry.proofs.Guard.{sound-when, answer-when, answer-unless}
+use Rattle.rules.proofs.TestedRegistry.{registry-tested}
+use Rattle.rules.proofs.Called.{call-sound, call-damaged}
 use Rattle.registry.proofs.PublicationRegistry.resolve.Statement.{statement}
 use Rattle.registry.proofs.PublicationRegistry.resolve.Tie as tie
 
@@ -15,6 +13,6 @@ resolve-spec =
     tie.close
     (tie.spec
     (λ c κs. search needs)
-    (λ c κs. sound-when box (columnsOf (c .before .before .args .self)) (c .before .is-sound .ensures) (c .if1 .taken))
-    (λ c. c .resolve .ensures ∙ sym (ap idAnswerOf (answer-when box (columnsOf (c .before .before .before .args .self)) (c .before .before .is-sound .ensures) (resolve (c .before .before .before .args .port)) (c .before .if1 .taken))))
-    (λ c. sym (ap idAnswerOf (answer-unless box (columnsOf (c .before .before .args .self)) (c .before .is-sound .ensures) (resolve (c .before .before .args .port)) (c .if1 .left)))))
+    (λ c κs. registry-tested box _ .0 (sym (c .before .is-sound .ensures) ∙ c .if1 .taken))
+    (λ c. rw (call-sound box _ _ (registry-tested box _ .0 (sym (c .before .before .is-sound .ensures) ∙ c .before .if1 .taken))) (c .resolve .ensures))
+    (λ c. rw (call-damaged box _ _ (sym (c .before .is-sound .ensures) ∙ c .if1 .left))))

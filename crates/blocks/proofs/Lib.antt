@@ -1,0 +1,10 @@
+pub mod Saying
+pub mod Fields
+pub mod Commands
+pub mod Blocks
+pub mod BlockTurns
+pub mod CommandTurns
+pub mod Answers
+pub mod AnswerTurns
+pub mod LinesApart
+pub mod AnswersApart

@@ -1,0 +1,5 @@
+pub mod Saying
+pub mod Fields
+pub mod Blocks
+pub mod Answers
+pub mod Cases
