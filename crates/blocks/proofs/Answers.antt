@@ -1,8 +1,8 @@
 -- Answers: their lengths, and what their lines say.
 -- Assumes nothing.
-use Prim.Native.Nat.{ℕ, _+_, _≤_}
+use Prim.Native.Nat.{ℕ, _≤_}
 use mathlib.Core.Path.{_≡_, refl}
-use mathlib.Core.List.{List, [], _∷_, _++_, map}
+use mathlib.Core.List.{_∷_, map}
 use native.Mathlib.Omega.{arith}
 use lib.ListN.{length, length-append}
 use Rattle.rules.specs.Responses.{response-number, response-values}
@@ -12,7 +12,7 @@ use Rattle.text.specs.Digits.{digits-in, digits}
 use Rattle.text.specs.Keys.{answer, id, lease, payload, revision, count, wide, key-text}
 use Rattle.text.specs.Lines.{line-text}
 use Rattle.writing.proofs.Lines.{line-most}
-use Rattle.blocks.specs.Answers.{Key-value, _is_, lines-text, value-lines, answer-lines, answer-text}
+use Rattle.blocks.specs.Answers.{_is_, answer-lines, answer-text}
 
 -- the longest line of each key
 

@@ -1,26 +1,24 @@
 -- The block reader, key by key of a row.
 -- Assumes nothing.
 use Prim.Native.Nat.{ℕ, suc, _+_, _≤_, _<_}
-use mathlib.Core.Path.{_≡_, refl, sym, ap, _∙_, subst}
-use mathlib.Core.Bool.{cond}
+use mathlib.Core.Path.{_≡_, refl, sym, ap, _∙_}
 use mathlib.Core.List.{List, [], _∷_, _++_, append-nil}
 use native.Mathlib.Omega.{arith}
 use native.Mathlib.Numerals.{add-one}
 use lib.ListN.{length, take, drop, getD, set, drop-of-length-le, length-set}
 use lib.Seq.{take-suc, take-suc-set, take-all, drop-cons, append-snoc}
 use borrow.Author.Tests.{eq-eqb, ne-eqb}
-use Rattle.text.specs.Reading.{Reading, unfinished, wrong, got, then-read}
+use Rattle.text.specs.Reading.{Reading, got, then-read}
 use Rattle.text.specs.Keys.{key-limit, key-code}
 use Rattle.text.specs.Lines.{key-line-at}
 use Rattle.text.specs.Value.{value-reading}
-use Rattle.text.specs.Ops.{op-at, op-reading}
+use Rattle.text.specs.Ops.{op-at}
 use Rattle.text.specs.declared.Value.{Value}
 use Rattle.text.proofs.Reading.{shows}
 use Rattle.text.proofs.KeyTable.{key-at}
 use Rattle.blocks.specs.Saying.{said}
 use Rattle.blocks.specs.Fields.{Field, Fitting, field-at, fields-at}
 use Rattle.blocks.specs.Blocks.{keys-of, command-of, as-block, lines-at, block-at}
-use Rattle.blocks.specs.declared.Block.{Block}
 use Rattle.blocks.specs.declared.Block.the-variants.{Unfinished, Wrong, Got}
 use Rattle.blocks.proofs.Saying.{said-said, said-same}
 use Rattle.blocks.proofs.Fields.{field-exact, field-fits}

@@ -19,10 +19,10 @@ use Rattle.text.specs.Ops.{op-lines, Op-line, op-line-of, op-at, op-reading}
 use Rattle.text.specs.Keys.{lease, key-rows}
 use Rattle.text.proofs.Reading.{means-same, only, shows, within}
 use Rattle.text.proofs.Sequence.{then-exact}
-use Rattle.text.proofs.Ops.{op-exact, op-next}
-use Rattle.blocks.specs.Saying.{Saying, said}
-use Rattle.blocks.specs.Fields.{Fields, Fitting, fields-at, fields-text}
-use Rattle.blocks.specs.Blocks.{row-of, values-of, keys-of, Block-text, command-of, as-block, block-at, block-reading, In-width, block-of, blocks-text}
+use Rattle.text.proofs.Ops.{op-exact}
+use Rattle.blocks.specs.Saying.{Saying}
+use Rattle.blocks.specs.Fields.{Fields, fields-at, fields-text}
+use Rattle.blocks.specs.Blocks.{row-of, values-of, keys-of, Block-text, command-of, as-block, row-read, block-at, block-reading, In-width, block-of, blocks-text}
 use Rattle.blocks.specs.declared.Block.{Block}
 use Rattle.blocks.specs.declared.Block.the-variants.{Unfinished, Wrong, Got}
 use Rattle.blocks.proofs.Saying.{saying-exact, saying-some}
@@ -66,12 +66,12 @@ text-told w c b =
     }
 
 told-read : List ℕ → ℕ → Reading Command
-told-read s at = then-read (op-reading (op-at s at)) (λ row next. said (command-of row) (fields-at (keys-of row) s next))
+told-read s at = then-read (op-reading (op-at s at)) (λ row. row-read row s)
 
 told-exact : Exact Told told-read
 unfolding told-read
 told-exact =
-    then-exact Op-line (λ row. Saying (command-of row) (Fields (keys-of row))) (λ s at. op-reading (op-at s at)) (λ row s at. said (command-of row) (fields-at (keys-of row) s at)) op-exact
+    then-exact Op-line (λ row. Saying (command-of row) (Fields (keys-of row))) (λ s at. op-reading (op-at s at)) row-read op-exact
     (λ row. saying-exact (command-of row) (Fields (keys-of row)) (fields-at (keys-of row)) (fields-exact (keys-of row) (keys-known row)))
     (λ row. saying-some (command-of row) (Fields (keys-of row)) (fields-some (keys-of row) (keys-known row)))
 

@@ -1,11 +1,11 @@
 -- A command and its row with its values are the same.
 -- Assumes nothing.
 use Prim.Native.Nat.{ℕ, zero, suc, _<_}
-use mathlib.Core.Path.{_≡_, refl, sym, ap, _∙_}
+use mathlib.Core.Path.{_≡_, refl, ap, _∙_}
 use mathlib.Core.Bool.{cond}
 use mathlib.Core.List.{List, [], _∷_}
 use native.Mathlib.Omega.{arith}
-use lib.ListN.{length, getD}
+use lib.ListN.{length}
 use lib.Dec.{eqb, eqb·suc-zero}
 use borrow.Author.Tests.{eqb-true}
 use Rattle.lists.proofs.Every.{below-at}
@@ -63,44 +63,12 @@ kept-fitting (suc c ∷ cs) (v ∷ vs) h = rw (eqb·suc-zero c) (ap (λ (us : Li
 
 -- the command of a row says that row and its values
 
-Says : ℕ → Type 0
-Says row =
-    (a b c d e : ℕ) → (row-of (command-of row (a ∷ b ∷ c ∷ d ∷ e ∷ [])) ≡ row)
-    × (values-of (command-of row (a ∷ b ∷ c ∷ d ∷ e ∷ [])) ≡ kept (keys-of row) (a ∷ b ∷ c ∷ d ∷ e ∷ []))
+says-row : ℕ → List ℕ → Type 0
+says-row row vs = row-of (command-of row vs) ∷ values-of (command-of row vs) ≡ row ∷ kept (keys-of row) vs
 
-rows-say : Each-below 11 Says
-unfolding Says command-of kept
-rows-say = (
-  (
-    (
-      (
-        (
-          (
-            (
-              (
-                (
-                  (
-                    (tt, λ a b c d e. (refl, refl)),
-                    λ a b c d e. (refl, refl),
-                  ),
-                  λ a b c d e. (refl, refl),
-                ),
-                λ a b c d e. (refl, refl),
-              ),
-              λ a b c d e. (refl, refl),
-            ),
-            λ a b c d e. (refl, refl),
-          ),
-          λ a b c d e. (refl, refl),
-        ),
-        λ a b c d e. (refl, refl),
-      ),
-      λ a b c d e. (refl, refl),
-    ),
-    λ a b c d e. (refl, refl),
-  ),
-  λ a b c d e. (refl, refl),
-)
+rows-say : (a b c d e : ℕ) → Each-below 11 (λ row. says-row row (a ∷ b ∷ c ∷ d ∷ e ∷ []))
+unfolding says-row command-of kept
+rows-say a b c d e = (refl, (refl, (refl, (refl, (refl, (refl, (refl, (refl, (refl, (refl, (refl, tt)))))))))))
 
 -- every row has five places
 
@@ -123,8 +91,9 @@ pub keys-length : (row : ℕ) → row < 11 → length (keys-of row) ≡ 5
 keys-length row h = eqb-true (length (keys-of row)) 5 (below-at (λ row. eqb (length (keys-of row)) 5) 11 refl row h)
 
 pub of-command : (row : ℕ) (vs : List ℕ) → row < 11 → Fitting (keys-of row) vs → (row-of (command-of row vs) ≡ row) × (values-of (command-of row vs) ≡ vs)
-unfolding Says
+unfolding says-row
 of-command row vs h f =
     let l = fitting-length (keys-of row) vs f ∙ keys-length row h in
-    let p = five (λ us. (row-of (command-of row us) ≡ row) × (values-of (command-of row us) ≡ kept (keys-of row) us)) (each-at Says 11 rows-say row h) vs l in
-    (p .0, p .1 ∙ kept-fitting (keys-of row) vs f)
+    let p : says-row row vs = five (says-row row) (λ a b c d e. each-at (λ row. says-row row (a ∷ b ∷ c ∷ d ∷ e ∷ [])) 11 (rows-say a b c d e) row h) vs l in
+    let k = kept-fitting (keys-of row) vs f in
+    (cc, cc)

@@ -1,7 +1,7 @@
 -- The reader of key lines one after the other reads exactly them, and each value it finds fits its key's width.
 -- Assumes nothing.
 use Prim.Native.Nat.{ℕ, zero, suc, _^_, _≤_, _<_}
-use mathlib.Core.Path.{_≡_, refl, sym, ap, _∙_, subst}
+use mathlib.Core.Path.{_≡_, refl, sym, _∙_, subst}
 use mathlib.Core.List.{List, [], _∷_, _++_}
 use native.Mathlib.Omega.{arith}
 use lib.ListN.{length, drop, getD}
@@ -9,10 +9,9 @@ use lib.Dec.{ltb, leb, eqb·suc-zero}
 use borrow.Author.Tests.{ltb-true, le-leb}
 use Rattle.lists.specs.Every.{Every}
 use Rattle.lists.proofs.Every.{whole, below-at, every-place}
-use Rattle.text.specs.Reading.{Reading, got, Apart, Exact}
+use Rattle.text.specs.Reading.{got, Exact}
 use Rattle.text.specs.Decimal.{most-digits}
 use Rattle.text.specs.Keys.{owner, lease, key-limits, key-limit}
-use Rattle.text.specs.Lines.{line-text}
 use Rattle.text.specs.Value.{value-reading}
 use Rattle.text.proofs.Sequence.{then-exact}
 use Rattle.text.proofs.KeyLines.{key-line-exact}

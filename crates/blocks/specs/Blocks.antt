@@ -82,11 +82,14 @@ as-block unfinished = Unfinished
 as-block wrong = Wrong
 as-block (got c next) = Got c next
 
+abbrev pub row-read : ℕ → List ℕ → ℕ → Reading Command
+row-read row s at = said (command-of row) (fields-at (keys-of row) s at)
+
 unfoldable pub lines-at : ℕ → List ℕ → ℕ → Block
-lines-at row s at = as-block (said (command-of row) (fields-at (keys-of row) s at))
+lines-at row s at = as-block (row-read row s at)
 
 unfoldable pub block-at : List ℕ → ℕ → Block
-block-at s at = as-block (then-read (op-reading (op-at s at)) (λ row next. said (command-of row) (fields-at (keys-of row) s next)))
+block-at s at = as-block (then-read (op-reading (op-at s at)) (λ row. row-read row s))
 
 -- the answer as a reading
 

@@ -8,13 +8,11 @@ use registry::CountAnswer;
 use registry::IdAnswer;
 use registry::LeaseIdAnswer;
 use registry::Plain;
-use rules::Command;
 use rules::LeaseId;
 use rules::Owner;
 use rules::Port;
 use rules::PublicationId;
 use rules::Refusal;
-use rules::Response;
 use store::HandleAnswer;
 use store::LeasedAnswer;
 use store::ObserveAnswer;
@@ -178,72 +176,103 @@ fn show_present(a: Plain, present: bool) {
 
 // A wipe that has to wait for two leases.
 fn one_day() {
-    let published = PublicationStore::new().publish(Owner(4), 0, Port(7), 900);
-    show_publish(published.answer);
-    let first = published.store.acquire_for(PublicationId(0), Owner(5), 1);
-    show_lease(first.answer);
-    let second = first.store.acquire_for(PublicationId(0), Owner(6), 1);
-    show_lease(second.answer);
-    let leased = second.store;
-    show_id(leased.resolve(Port(7)));
-    show_read(leased.leased_observation(LeaseId(0)));
-    let replaced = leased.replace(PublicationId(0), Owner(4), 0, 901);
-    show_replace(replaced.answer);
-    let newer = replaced.store;
-    show_read(newer.leased_observation(LeaseId(1)));
-    let revoked = newer.revoke(PublicationId(0));
-    show_plain(b"revoke", revoked.answer);
-    let hidden = revoked.store;
-    show_id(hidden.resolve(Port(7)));
-    let early = hidden.reclaim(PublicationId(0));
-    show_handle(b"reclaim", early.answer);
-    let half = early.store.release(LeaseId(0));
-    show_plain(b"release", half.answer);
-    let still = half.store.reclaim(PublicationId(0));
-    show_handle(b"reclaim", still.answer);
-    let drained = still.store.release(LeaseId(1));
-    show_plain(b"release", drained.answer);
-    let ended = drained.store.reclaim(PublicationId(0));
-    show_handle(b"reclaim", ended.answer);
-    let over = ended.store;
-    let again = over.reclaim(PublicationId(0));
-    show_handle(b"reclaim", again.answer);
-    show_count(over.retained_count());
+    let empty = PublicationStore::new();
+    let published = empty.publish(Owner(4), 0, Port(7), 900);
+    let answer = published.answer;
+    show_publish(answer);
+    let store = published.store;
+    let first = store.acquire_for(PublicationId(0), Owner(5), 1);
+    let answer = first.answer;
+    show_lease(answer);
+    let store = first.store;
+    let second = store.acquire_for(PublicationId(0), Owner(6), 1);
+    let answer = second.answer;
+    show_lease(answer);
+    let store = second.store;
+    show_id(store.resolve(Port(7)));
+    show_read(store.leased_observation(LeaseId(0)));
+    let replaced = store.replace(PublicationId(0), Owner(4), 0, 901);
+    let answer = replaced.answer;
+    show_replace(answer);
+    let store = replaced.store;
+    show_read(store.leased_observation(LeaseId(1)));
+    wipe(store);
 }
 
-// A store with a handle in a cell that is not in use, handed to every public call.
-fn damaged_store() {
-    let mut damaged = PublicationStore::new();
-    damaged.payloads[95] = 900;
-    let copy = damaged.registry();
-    show_plain(b"registry", copy.answer);
+// The wipe: revoked, reclaimed too early, drained, reclaimed.
+fn wipe(store: PublicationStore) {
+    let revoked = store.revoke(PublicationId(0));
+    let answer = revoked.answer;
+    show_plain(b"revoke", answer);
+    let store = revoked.store;
+    show_id(store.resolve(Port(7)));
+    let store = reclaim(store);
+    let store = release(store, LeaseId(0));
+    let store = reclaim(store);
+    let store = release(store, LeaseId(1));
+    let store = reclaim(store);
+    let store = reclaim(store);
+    show_count(store.retained_count());
+}
+
+fn reclaim(store: PublicationStore) -> PublicationStore {
+    let out = store.reclaim(PublicationId(0));
+    let answer = out.answer;
+    show_handle(b"reclaim", answer);
+    out.store
+}
+
+fn release(store: PublicationStore, lease: LeaseId) -> PublicationStore {
+    let out = store.release(lease);
+    let answer = out.answer;
+    show_plain(b"release", answer);
+    out.store
+}
+
+// A store with a handle in a cell that is not in use, handed to every public call: first the commands.
+fn damaged_commands(damaged: PublicationStore) {
     let published = damaged.publish(Owner(4), 0, Port(7), 970);
-    show_publish(published.answer);
-    value(b"payload in the last cell", published.store.payloads[95]);
+    let answer = published.answer;
+    show_publish(answer);
+    let store = published.store;
+    value(b"payload in the last cell", store.payloads[95]);
+    let replaced = damaged.replace(PublicationId(0), Owner(4), 0, 971);
+    let answer = replaced.answer;
+    show_replace(answer);
+    let revoked = damaged.revoke(PublicationId(0));
+    let answer = revoked.answer;
+    show_plain(b"revoke", answer);
+    let acquired = damaged.acquire_for(PublicationId(0), Owner(5), 1);
+    let answer = acquired.answer;
+    show_lease(answer);
+    let adopted = damaged.adopt(PublicationId(0), Owner(4), 1);
+    let answer = adopted.answer;
+    show_plain(b"adopt", answer);
+    release(damaged, LeaseId(0));
+    reclaim(damaged);
+}
+
+// .. then the queries.
+fn damaged_queries(damaged: PublicationStore) {
+    let copy = damaged.registry();
+    let answer = copy.answer;
+    show_plain(b"registry", answer);
     show_handle(b"value", damaged.value(PublicationId(0)));
     show_observation(damaged.observation(PublicationId(0)));
     show_leased(damaged.leased_value(LeaseId(0)));
     show_read(damaged.leased_observation(LeaseId(0)));
-    let replaced = damaged.replace(PublicationId(0), Owner(4), 0, 971);
-    show_replace(replaced.answer);
-    let revoked = damaged.revoke(PublicationId(0));
-    show_plain(b"revoke", revoked.answer);
-    let acquired = damaged.acquire_for(PublicationId(0), Owner(5), 1);
-    show_lease(acquired.answer);
-    let released = damaged.release(LeaseId(0));
-    show_plain(b"release", released.answer);
-    let adopted = damaged.adopt(PublicationId(0), Owner(4), 1);
-    show_plain(b"adopt", adopted.answer);
-    let reclaimed = damaged.reclaim(PublicationId(0));
-    show_handle(b"reclaim", reclaimed.answer);
     show_count(damaged.retained_count());
     let contained = damaged.contains_handle(900);
-    show_present(contained.answer, contained.present);
+    let answer = contained.answer;
+    show_present(answer, contained.present);
     show_id(damaged.resolve(Port(7)));
 }
 
 fn main() {
     one_day();
     io::write_all(STDOUT_FILENO, b"a damaged store\n");
-    damaged_store();
+    let mut damaged = PublicationStore::new();
+    damaged.payloads[95] = 900;
+    damaged_commands(damaged);
+    damaged_queries(damaged);
 }

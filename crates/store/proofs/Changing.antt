@@ -143,17 +143,17 @@ module _ {L : Limits} {c : StoreColumns} (h : Store-columns-sound L c) (p : Publ
           → record {
             answer = replace.Earlier (getD (c .payloads) (p .0) 0);
             store =
-              storeOf
-              (record {
-                registry = c .registry;
-                payloads = set (c .payloads) (p .0) v;
-                revisions = set (c .revisions) (p .0) (getD (c .revisions) (p .0) 0 + 1);
-              });
+                storeOf
+                (record {
+                  registry = c .registry;
+                  payloads = set (c .payloads) (p .0) v;
+                  revisions = set (c .revisions) (p .0) (getD (c .revisions) (p .0) 0 + 1);
+                });
           }
           ≡ replacedOf (laid-out L (step L (used c) (Replace p o g v)))
       replace-done t =
           let up : padded (L .publications) 0 (set (take (c .registry .count) (c .revisions)) (p .0) (suc (getD (take (c .registry .count) (c .revisions)) (p .0) 0)))
-              ≡ set (c .revisions) (p .0) (getD (c .revisions) (p .0) 0 + 1) =
+          ≡ set (c .revisions) (p .0) (getD (c .revisions) (p .0) 0 + 1) =
           rw (← revision-used L c h (p .0), add-one (getD (c .revisions) (p .0) 0)) (filled-revision h (p .0) (suc (getD (c .revisions) (p .0) 0)) k) in
           sym
           (ap replacedOf (carried L c (Replace p o g v) (replace-alone ∙ told-pass (verdict (replace-row L (used cell) first o g)) e t))

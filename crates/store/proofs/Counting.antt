@@ -64,10 +64,10 @@ module _ {A : Type 0} {p : A → Bool} {l : List A} {n size i k : ℕ} (s : Coun
         fits = s .fits;
         long = s .long;
         told =
-          ⊎-elim
-          (λ t. let q : how-many p (take (i + 1) l) ≡ how-many p (take i l) + 1 = rw (t .0) at one in omega (arith, s .told, t .1))
-          (λ t. let q : how-many p (take (i + 1) l) ≡ how-many p (take i l) + 0 = rw (t .0) at one in omega (arith, s .told, t .1))
-          came;
+            ⊎-elim
+            (λ t. let q : how-many p (take (i + 1) l) ≡ how-many p (take i l) + 1 = rw (t .0) at one in omega (arith, s .told, t .1))
+            (λ t. let q : how-many p (take (i + 1) l) ≡ how-many p (take i l) + 0 = rw (t .0) at one in omega (arith, s .told, t .1))
+            came;
         few = ⊎-elim (λ t. omega (arith, s .few, t .1)) (λ t. omega (arith, s .few, t .1)) came;
       }
 

@@ -36,11 +36,11 @@ module _ {L : Limits} {c : StoreColumns} (h : Store-columns-sound L c) where
   -- one publication more, with its payload and its revision
   pub filled-stored : (e : Publication) (v n : ℕ) → c .registry .count < L .publications
       → filled L
-        (record {
-          registry = and-publication (used-registry (c .registry)) e;
-          payloads = take (c .registry .count) (c .payloads) ++ (v ∷ []);
-          revisions = take (c .registry .count) (c .revisions) ++ (n ∷ []);
-        })
+      (record {
+        registry = and-publication (used-registry (c .registry)) e;
+        payloads = take (c .registry .count) (c .payloads) ++ (v ∷ []);
+        revisions = take (c .registry .count) (c .revisions) ++ (n ∷ []);
+      })
       ≡ record {
         registry = with-publications (c .registry) (set (c .registry .publications) (c .registry .count) e) (c .registry .count + 1);
         payloads = set (c .payloads) (c .registry .count) v;

@@ -2,6 +2,7 @@
 -- Assumes nothing.
 use Prim.Native.Nat.{ℕ, _+_, _-_}
 use mathlib.Core.Path.{_≡_, sym, ap, _∙_}
+use mathlib.Core.List.{List}
 use lib.ListN.{take, set}
 use Rattle.lists.specs.Column.{padded}
 use Rattle.lists.specs.Removal.{remove}
@@ -17,6 +18,7 @@ use Rattle.rules.specs.Rows.{acquire-row, lease-row, step}
 use Rattle.rules.specs.Calls.{laid-out}
 use Rattle.rules.specs.declared.PublicationId.{PublicationId}
 use Rattle.rules.specs.declared.LeaseId.{LeaseId}
+use Rattle.rules.specs.declared.Lease.{Lease}
 use Rattle.rules.specs.declared.Owner.{Owner}
 use Rattle.rules.specs.declared.Consumer.the-variants.{Episode}
 use Rattle.rules.specs.declared.Refusal.{Refusal}
@@ -35,6 +37,7 @@ use Rattle.registry.specs.declared.Plain.the-variants as plain
 use Rattle.registry.specs.declared.LeaseIdAnswer.the-variants as lease-id
 use Rattle.store.specs.Columns.{storeOf}
 use Rattle.store.specs.Answers.{changedOf, acquiredOf}
+use Rattle.store.specs.declared.Changed.{Changed}
 use Rattle.store.proofs.Steps.{stopped, carried, passes, stopped-by}
 use Rattle.store.proofs.Effects.{beside-cells, filled-beside}
 
@@ -48,12 +51,12 @@ module _ {L : Limits} {c : StoreColumns} (h : Store-columns-sound L c) where
         → record {
           answer = lease-id.Id (record { 0 = c .registry .counter });
           store =
-            storeOf
-            (beside-cells c
-            (with-leases (c .registry)
-            (set (c .registry .leases) (c .registry .active) (record { id = record { 0 = c .registry .counter }; publication = p; consumer = Episode o g }))
-            (c .registry .active + 1)
-            (c .registry .counter + 1)));
+              storeOf
+              (beside-cells c
+              (with-leases (c .registry)
+              (set (c .registry .leases) (c .registry .active) (record { id = record { 0 = c .registry .counter }; publication = p; consumer = Episode o g }))
+              (c .registry .active + 1)
+              (c .registry .counter + 1)));
         }
         ≡ acquiredOf (laid-out L (step L (used c) (Acquire p o g)))
     acquire-done t =
@@ -70,21 +73,19 @@ module _ {L : Limits} {c : StoreColumns} (h : Store-columns-sound L c) where
     release-refused t =
         sym (ap changedOf (stopped L c (Release i) h (looked-stop (verdict (lease-row L (used-registry (c .registry)) i)) (first-place (is-lease i) (take (c .registry .active) (c .registry .leases))) e t)))
 
-    pub release-done : {k : ℕ} → w ≡ lookup.At k
-        → record {
-          answer = plain.Done;
-          store =
-            storeOf
-            (beside-cells c
-            (with-leases (c .registry) (padded (L .leases) blank-lease (remove (take (c .registry .active) (c .registry .leases)) k)) (c .registry .active - 1) (c .registry .counter)));
-        }
-        ≡ changedOf (laid-out L (step L (used c) (Release i)))
-    release-done {k} t =
-        let r = registry-columns L c h in
-        let out : leave-out (is-lease i) (take (c .registry .active) (c .registry .leases)) ≡ remove (take (c .registry .active) (c .registry .leases)) k =
-        rw (← lease-place r i e t) (leave-lease i (take (c .registry .active) (c .registry .leases)) (r .in-use .s4 .rising) (lease-active r i e t)) in
-        sym
-        (ap changedOf (carried L c (Release i) (lease-passes r i e t))
-        ∙ ap (λ (x : StoreColumns). record { answer = plain.Done; store = storeOf x })
-        (filled-beside h (without-lease (used-registry (c .registry)) i)
-        ∙ ap (beside-cells c) (filled-released r (leave-out (is-lease i) (take (c .registry .active) (c .registry .leases))) k out (lease-below r i e t))))
+    -- the leases without the one that was found
+    module _ {k : ℕ} (t : w ≡ lookup.At k) {ls : List Lease} (q : ls ≡ padded (L .leases) blank-lease (remove (take (c .registry .active) (c .registry .leases)) k)) where
+      abbrev closed : List Lease → Changed
+      closed ls = record { answer = plain.Done; store = storeOf (beside-cells c (with-leases (c .registry) ls (c .registry .active - 1) (c .registry .counter))) }
+
+      pub release-done : closed ls ≡ changedOf (laid-out L (step L (used c) (Release i)))
+      release-done =
+          let r = registry-columns L c h in
+          let out : leave-out (is-lease i) (take (c .registry .active) (c .registry .leases)) ≡ remove (take (c .registry .active) (c .registry .leases)) k =
+          rw (← lease-place r i e t) (leave-lease i (take (c .registry .active) (c .registry .leases)) (r .in-use .s4 .rising) (lease-active r i e t)) in
+          ap closed q
+          ∙ sym
+          (ap changedOf (carried L c (Release i) (lease-passes r i e t))
+          ∙ ap (λ (x : StoreColumns). record { answer = plain.Done; store = storeOf x })
+          (filled-beside h (without-lease (used-registry (c .registry)) i)
+          ∙ ap (beside-cells c) (filled-released r (leave-out (is-lease i) (take (c .registry .active) (c .registry .leases))) k out (lease-below r i e t))))

@@ -6,3 +6,4 @@ pub mod Changing
 pub mod Leasing
 pub mod Reading
 pub mod Counting
+pub mod Applying

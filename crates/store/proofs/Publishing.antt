@@ -43,13 +43,13 @@ module _ {L : Limits} {c : StoreColumns} (h : Store-columns-sound L c) (q : Port
         → record {
           answer = Id (record { 0 = c .registry .count });
           store =
-            storeOf
-            (record {
-              registry =
-                with-publications (c .registry) (set (c .registry .publications) (c .registry .count) (published o g q (c .registry .count))) (c .registry .count + 1);
-              payloads = set (c .payloads) (c .registry .count) v;
-              revisions = set (c .revisions) (c .registry .count) 0;
-            });
+              storeOf
+              (record {
+                registry =
+                    with-publications (c .registry) (set (c .registry .publications) (c .registry .count) (published o g q (c .registry .count))) (c .registry .count + 1);
+                payloads = set (c .payloads) (c .registry .count) v;
+                revisions = set (c .revisions) (c .registry .count) 0;
+              });
         }
         ≡ publishedOf (laid-out L (step L (used c) (Publish o g q v)))
     publish-done t =

@@ -7,14 +7,14 @@ abbrev pub columnsOf : PublicationStore → StoreColumns
 columnsOf s =
     record {
       registry =
-        record {
-          domain = s .domain;
-          publications = s .publications;
-          count = s .count;
-          leases = s .leases;
-          active = s .active;
-          counter = s .counter;
-        };
+          record {
+            domain = s .domain;
+            publications = s .publications;
+            count = s .count;
+            leases = s .leases;
+            active = s .active;
+            counter = s .counter;
+          };
       payloads = s .payloads;
       revisions = s .revisions;
     }

@@ -5,19 +5,25 @@
 ghost use mathlib.Core.Path.{_≡_};
 ghost use Rattle.rules.specs.declared.Domain.the-variants.{Unset, Number};
 ghost use Rattle.rules.specs.declared.Command.the-variants.{Publish, Adopt, Acquire, Release, Revoke, Replace, Reclaim, Read, Observe, Resolve, Count};
+ghost use Rattle.rules.specs.declared.Refusal.the-variants.{BadTable};
 ghost use Rattle.rules.specs.Limits.{box};
+ghost use Rattle.rules.specs.Commands.{offered};
 ghost use Rattle.rules.specs.Table.{empty-store};
 ghost use Rattle.rules.specs.Columns.{filled};
 ghost use Rattle.rules.specs.Queries.{leased-value, value, contains-handle, registry-copy};
 ghost use Rattle.rules.specs.Calls.{command, query};
+ghost use Rattle.rules.specs.Responses.{refusal-of};
+ghost use Rattle.rules.specs.ValueCell.{new-cell, get-cell, replace-cell};
 ghost use Rattle.registry.specs.Answers.{idAnswerOf, countAnswerOf};
 ghost use Rattle.store.specs.Columns.{columnsOf, storeOf};
-ghost use Rattle.store.specs.Answers.{handleAnswerOf, readAnswerOf, observeAnswerOf, leasedAnswerOf, containedOf, registryCopyOf, publishedOf, changedOf, acquiredOf, replacedOf, reclaimedOf};
+ghost use Rattle.store.specs.Answers.{handleAnswerOf, readAnswerOf, observeAnswerOf, leasedAnswerOf, containedOf, registryCopyOf, publishedOf, changedOf, acquiredOf, replacedOf, reclaimedOf, appliedOf};
+ghost use Rattle.store.specs.ValueCell.{cellOf, valueCellOf, exchangedOf};
 use registry::CountAnswer;
 use registry::IdAnswer;
 use registry::LeaseIdAnswer;
 use registry::Plain;
 use registry::PublicationRegistry;
+use rules::Command;
 use rules::Domain;
 use rules::Lease;
 use rules::LeaseId;
@@ -119,6 +125,17 @@ pub struct Contained {
 pub struct RegistryCopy {
     pub answer: Plain,
     pub registry: PublicationRegistry,
+}
+
+// One handle by itself.
+pub struct ValueCell {
+    pub value: u64,
+}
+
+// The earlier handle beside the cell.
+pub struct Exchanged {
+    pub earlier: u64,
+    pub cell: ValueCell,
 }
 
 impl PublicationStore {
@@ -341,6 +358,74 @@ impl PublicationStore {
         Reclaimed {
             answer: HandleAnswer::Refused(Refusal::BadTable),
             store: self,
+        }
+    }
+
+    // Any command: what it is answered, in one type for all of them, and the store that it leaves.
+    pub fn apply(self, command: Command) -> Applied
+        ensures { λ r. ⌜ r ≡ appliedOf (columnsOf self) command ⌝ }
+    {
+        if inner::is_sound(self) {
+            return inner::apply(self, command);
+        }
+        let response = bad_table(command);
+        Applied {
+            response: response,
+            store: self,
+        }
+    }
+}
+
+// What a command is answered on a store that isn't sound.
+fn bad_table(command: Command) -> Response
+    ensures { λ r. ⌜ r ≡ refusal-of command BadTable (offered command) ⌝ }
+{
+    match command {
+        Command::Publish {
+            owner: _,
+            generation: _,
+            port: _,
+            payload,
+        } => Response::Returned(Refusal::BadTable, payload),
+        Command::Replace {
+            id: _,
+            owner: _,
+            generation: _,
+            payload,
+        } => Response::Returned(Refusal::BadTable, payload),
+        Command::Adopt { .. }
+        | Command::Acquire { .. }
+        | Command::Release { .. }
+        | Command::Revoke { .. }
+        | Command::Reclaim { .. }
+        | Command::Read { .. }
+        | Command::Observe { .. }
+        | Command::Resolve { .. }
+        | Command::Count => Response::Refused(Refusal::BadTable),
+    }
+}
+
+impl ValueCell {
+    pub fn new(value: u64) -> ValueCell
+        ensures { λ r. ⌜ r ≡ valueCellOf (new-cell value) ⌝ }
+    {
+        ValueCell { value: value }
+    }
+
+    // The handle.
+    pub fn get(self) -> u64
+        ensures { λ r. ⌜ r ≡ get-cell (cellOf self) ⌝ }
+    {
+        self.value
+    }
+
+    // The earlier handle comes back beside the cell with the new one.
+    pub fn replace(self, value: u64) -> Exchanged
+        ensures { λ r. ⌜ r ≡ exchangedOf (replace-cell (cellOf self) value) ⌝ }
+    {
+        Exchanged {
+            earlier: self.value,
+            cell: ValueCell { value: value },
         }
     }
 }

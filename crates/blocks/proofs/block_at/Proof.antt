@@ -1,7 +1,6 @@
 -- `block_at` meets its contract: the op line's answer decides, or that of its row's lines.
 -- Assumes nothing.
 use mathlib.Core.Path.{sym, _∙_}
-use native.Mathlib.Omega.{arith}
 use borrow.Author.Needs.{needs}
 use Rattle.text.proofs.Ops.{op-next}
 use Rattle.blocks.proofs.BlockTurns.{op-unfinished, op-wrong, op-row}

@@ -29,13 +29,13 @@ put-response-spec =
     (λ c. search needs)
     (λ c κs. (omega arith, omega arith, omega (arith, answer-line, c .before .before .before .before .pre)))
     (λ c. search needs)
-    (λ c κs. value-room 5 _ _ (omega arith) (omega arith) (c .before .before .before .before .before .pre))
+    (λ c κs. value-room _ _ _ (omega arith) (omega arith) (c .before .before .before .before .before .pre))
     (λ c. search needs)
-    (λ c κs. value-room 6 _ _ (omega arith) (omega arith) (c .before .before .before .before .before .pre))
+    (λ c κs. value-room _ _ _ (omega arith) (omega arith) (c .before .before .before .before .before .pre))
     (λ c. search needs)
-    (λ c κs. value-room 4 _ _ (omega arith) (omega arith) (c .before .before .before .before .before .pre))
+    (λ c κs. value-room _ _ _ (omega arith) (omega arith) (c .before .before .before .before .before .pre))
     (λ c. search needs)
-    (λ c κs. value-room 5 _ _ (omega arith) (omega arith) (c .before .before .before .before .before .pre))
+    (λ c κs. value-room _ _ _ (omega arith) (omega arith) (c .before .before .before .before .before .pre))
     (λ c κs.
     let a = c .before .before .before .before .before .before .before .before .before in
     let x = c .before .before .before .before .before .before .r6 .given .0 .0 in
@@ -48,14 +48,14 @@ put-response-spec =
     let p = c .before .before .before .put-line-at in
     (omega arith, omega arith, omega (arith, a .pre, m .kept .0, p .kept .0, m .ensures .0, p .ensures .0, value-length id (x .id .0), id-most (x .id .0), revision-most (x .revision), payload-most (x .handle))))
     (λ c. search needs)
-    (λ c κs. value-room 8 _ _ (omega arith) (omega arith) (c .before .before .before .before .before .pre))
+    (λ c κs. value-room _ _ _ (omega arith) (omega arith) (c .before .before .before .before .before .pre))
     (λ c κs.
     let a = c .before .before .before .before .before .before .before .before .before in
     let x = c .before .before .before .before .before .before .r7 .given .0 .0 in
     let m = c .before .before .before .put-value5 in
     (omega arith, omega arith, omega (arith, a .pre, m .kept .0, m .ensures .0, value-length revision (x .revision), revision-most (x .revision), payload-most (x .handle))))
     (λ c. search needs)
-    (λ c κs. value-room 9 _ _ (omega arith) (omega arith) (c .before .before .before .before .before .pre))
+    (λ c κs. value-room _ _ _ (omega arith) (omega arith) (c .before .before .before .before .before .pre))
     (λ c. search needs)
     (λ c. answered-number _ _ (c .before .before .before .before .before .before .r .given .1) _ _ _ (c .before .before .before .number-of .result) (c .before .before .before .number-of .ensures) refl (c .before .before .put-line .ensures))
     (λ c. search needs)

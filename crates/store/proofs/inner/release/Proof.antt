@@ -21,4 +21,4 @@ release-spec =
     let k = lease-below (registry-columns _ _ (c .before .before .before .before .before .before .pre)) _ (c .before .before .before .before .lease-lookup .ensures) (c .before .before .i .given .1) in
     omega arith)
     (λ c. release-refused (c .before .before .before .before .before .pre) _ (c .before .before .before .lease-lookup .ensures) (c .before .r .given .1))
-    (λ c. rw (c .close-up .ensures) (release-done (c .before .before .before .before .before .before .pre) _ (c .before .before .before .before .lease-lookup .ensures) (c .before .before .i .given .1))))
+    (λ c. release-done (c .before .before .before .before .before .before .pre) _ (c .before .before .before .before .lease-lookup .ensures) (c .before .before .i .given .1) (c .close-up .ensures)))
