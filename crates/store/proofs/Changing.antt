@@ -2,16 +2,15 @@
 -- Assumes nothing.
 use Prim.Native.Nat.{ℕ, suc, _+_, _≤_, _<_}
 use mathlib.Core.Path.{_≡_, sym, ap, _∙_}
-use mathlib.Core.Bool.{true, false, not}
+use mathlib.Core.Bool.{not}
 use mathlib.Core.List.{List, [], _∷_}
 use native.Mathlib.Numerals.{add-one}
-use native.Mathlib.Omega.{arith}
 use borrow.Author.Tests.{leb-false, le-leb, lt-leb}
 use lib.Dec.{leb}
-use lib.ListN.{length, take, set, getD}
+use lib.ListN.{take, set, getD}
 use Rattle.lists.specs.Column.{padded}
 use Rattle.rules.specs.Limits.{Limits}
-use Rattle.rules.specs.Answers.{Test, _⇒_, stop, pass, verdict}
+use Rattle.rules.specs.Answers.{Test, _⇒_, stop, verdict}
 use Rattle.rules.specs.Table.{at}
 use Rattle.rules.specs.Conditions.{owned-by}
 use Rattle.rules.specs.Changes.{adopted, hidden, reclaimed, change}

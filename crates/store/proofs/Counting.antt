@@ -15,7 +15,6 @@ use Rattle.lists.specs.Search.{how-many}
 use Rattle.lists.specs.Every.{some-below}
 use Rattle.lists.proofs.Bools.{either}
 use Rattle.rules.specs.Limits.{Limits}
-use Rattle.rules.specs.Answers.{done}
 use Rattle.rules.specs.Table.{at, publication-of, payload-of}
 use Rattle.rules.specs.Columns.{StoreColumns, used}
 use Rattle.rules.specs.Sound.{Store-columns-sound}

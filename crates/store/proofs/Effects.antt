@@ -13,7 +13,7 @@ use Rattle.rules.specs.Changes.{and-publication, with-registry}
 use Rattle.rules.specs.Columns.{RegistryColumns, StoreColumns, used, used-registry, filled, filled-registry}
 use Rattle.rules.specs.Sound.{Store-columns-sound}
 use Rattle.rules.specs.declared.Publication.{Publication}
-use Rattle.rules.proofs.Columns.{registry-columns, count-used, payloads-used, revisions-used}
+use Rattle.rules.proofs.Columns.{registry-columns, payloads-used, revisions-used}
 use Rattle.columns.proofs.Effects.{with-publications, filled-published}
 
 -- another registry beside the same cells

@@ -12,7 +12,6 @@ use Rattle.rules.specs.SoundTest.{registry-test, store-test}
 use Rattle.rules.specs.Rows.{step}
 use Rattle.rules.specs.Calls.{laid-out, command, query}
 use Rattle.rules.specs.declared.Command.{Command}
-use Rattle.rules.specs.declared.Domain.{Domain}
 use Rattle.rules.specs.declared.Refusal.the-variants.{BadTable}
 use Rattle.rules.proofs.TestedStore.{store-tested}
 use Rattle.rules.proofs.Called.{command-sound, command-damaged, command-answers, query-sound, query-damaged}

@@ -1,6 +1,6 @@
 -- `registry` meets its contract: a copy of the registry's columns on a sound store, BadTable and the empty registry on any other.
 -- Assumes nothing.
-use mathlib.Core.Path.{sym, ap, _∙_}
+use mathlib.Core.Path.{sym, ap}
 use borrow.Author.Needs.{needs}
 use Rattle.rules.specs.Limits.{box}
 use Rattle.rules.specs.Queries.{registry-copy}

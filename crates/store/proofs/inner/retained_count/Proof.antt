@@ -3,7 +3,6 @@
 use Prim.Native.Nat.{_-_}
 use mathlib.Core.Logic.{inl, inr, ⊎-elim}
 use native.Mathlib.Omega.{arith}
-use borrow.Author.Needs.{needs}
 use Rattle.rules.proofs.Columns.{registry-columns, count-room, publications-length}
 use Rattle.store.specs.Columns.{columnsOf}
 use Rattle.store.proofs.Counting.{Counting, count-start, count-on, count-over, count-told}
