@@ -1,0 +1,6 @@
+pub mod Turns
+pub mod Running
+pub mod Stops
+pub mod Counting
+pub mod StopLine
+pub mod Reports

@@ -1,0 +1,29 @@
+-- What a run and a report come to, as the code's records.
+-- Assumes nothing.
+use Prim.Native.Nat.{ℕ, _≤_}
+use mathlib.Core.Path.{_≡_}
+use mathlib.Core.List.{List}
+use lib.ListN.{length, take}
+use Rattle.rules.specs.Columns.{StoreColumns}
+use Rattle.store.specs.Columns.{storeOf}
+use Rattle.trace.specs.Run.{Ran}
+use Rattle.trace.specs.Report.{Report}
+use Rattle.trace.specs.declared.Stopped.{Stopped}
+use Rattle.trace.specs.declared.Reported.{Reported}
+
+abbrev pub stoppedOf : Ran StoreColumns → Stopped
+stoppedOf r =
+    record {
+      store = storeOf (r .done .table);
+      stop = r .stop;
+      blocks = r .done .blocks;
+      read = r .done .read;
+      written = length (r .done .text);
+    }
+
+abbrev pub reportedOf : Report → Reported
+reportedOf r = record { stop = r .stop; written = length (r .text) }
+
+-- n counts bytes at the start of xs: what a caller is asked who lends `&out[..n]`
+abbrev pub Counts : ℕ → List ℕ → Type 0
+Counts n xs = (n ≤ length xs) × (n ≡ length (take n xs))

@@ -1,0 +1,5 @@
+pub mod Run
+pub mod Report
+pub mod Embedding
+pub mod Stops
+pub mod Bench
