@@ -1,0 +1,2 @@
+-- What the proofs of the exported functions use.
+mod Handed

@@ -1,0 +1,26 @@
+-- What a caller in C is handed: the run from an empty store without domain, its counts, and a name where there is room for any.
+-- Assumes nothing.
+use Prim.Native.Nat.{ℕ}
+use mathlib.Core.Bool.{cond}
+use mathlib.Core.List.{List, [], _∷_}
+use lib.Dec.{ltb}
+use lib.ListN.{length}
+use Rattle.rules.specs.Limits.{box}
+use Rattle.rules.specs.Refusals.{name-of}
+use Rattle.rules.specs.Table.{Store, empty-store}
+use Rattle.rules.specs.declared.Domain.the-variants.{Unset}
+use Rattle.trace.specs.Run.{Ran, run-sound}
+
+abbrev pub run-empty : (room : ℕ) → List ℕ → Ran Store
+run-empty room trace = run-sound box room trace (empty-store Unset)
+
+-- the blocks done, the bytes read and the bytes written
+abbrev pub counts-of : Ran Store → List ℕ
+counts-of r = r .done .blocks ∷ r .done .read ∷ length (r .done .text) ∷ []
+
+-- the room that holds every name
+abbrev pub name-room : ℕ
+name-room = 12
+
+unfoldable pub name-in : (room : ℕ) → ℕ → List ℕ
+name-in room n = cond (ltb room name-room) [] (name-of n)
