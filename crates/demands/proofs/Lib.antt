@@ -1,0 +1,12 @@
+pub mod Ending
+pub mod EntryPoints
+pub mod SameAnswers
+pub mod Calls
+pub mod RegistryCalls
+pub mod Numbers
+pub mod Sessions
+pub mod Retained
+pub mod Demand1
+pub mod Demand2
+pub mod Demand3
+pub mod Variants

@@ -1,0 +1,10 @@
+pub mod Ends
+pub mod EntryPoints
+pub mod Calls
+pub mod RegistryCalls
+pub mod Numbers
+pub mod Sessions
+pub mod Retained
+pub mod Demand1
+pub mod Demand2
+pub mod Demand3
