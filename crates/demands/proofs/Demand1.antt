@@ -1,6 +1,7 @@
 -- The first demand holds.
 -- Assumes nothing.
 use mathlib.Core.Path.{_≡_, sym, ap, subst, _∙_}
+use lib.ListN.{length}
 use Rattle.rules.specs.Limits.{box}
 use Rattle.rules.specs.Answers.{Outcome, refused}
 use Rattle.rules.specs.Commands.{Answer-to}
@@ -11,11 +12,14 @@ use Rattle.rules.proofs.Called.{damaged, query-damaged, command-damaged, comman
 use Rattle.registry.specs.Columns as registry-columns
 use Rattle.store.specs.Columns.{columnsOf, storeOf}
 use Rattle.store.specs.declared.PublicationStore.{PublicationStore}
+use Rattle.trace.specs.Run.{run}
+use Rattle.trace.proofs.Stops.{why}
 use Rattle.demands.specs.Calls.{Called, Applied, given}
 use Rattle.demands.specs.Demand1.{Ends-with-an-answer, Tests-what-it-is-handed, Carries-its-number, Changes-nothing, Demand1}
-use Rattle.demands.proofs.EntryPoints.{store-ends, cell-ends, registry-ends}
+use Rattle.demands.proofs.EntryPoints.{store-ends, cell-ends, registry-ends, trace-ends}
 use Rattle.demands.proofs.Calls.{answer-on, store-after, called, calls, applied, applies, queried}
 use Rattle.demands.proofs.RegistryCalls as registry
+use Rattle.demands.proofs.Texts.{run-is, stopped-at-once, report-refuses, report-tells-seven}
 use Rattle.demands.proofs.Numbers.{command-carries, query-carries, call-carries, fixed}
 
 -- what comes back with the rules' answer and store comes back
@@ -33,9 +37,12 @@ ends =
       store = store-ends;
       cell = cell-ends;
       registry = registry-ends;
+      trace = trace-ends;
       command = λ c s. (answer-on s c, store-after s c, calls c s);
       either-way = λ c s a t.
           (λ h. same Applied c s a t (called c s a t h) (applies c s), λ h. same Called c s a t (applied c s a t h) (calls c s));
+      text = λ s text out r left h.
+          (run box (length out) text (columnsOf s), run-is s text out r left h .0, why box (length out) text (columnsOf s));
     }
 
 tests : Tests-what-it-is-handed
@@ -47,6 +54,9 @@ tests =
             called c s a t h .1 ∙ ap storeOf (command-stays box (columnsOf s) c d),
           );
       query = λ q s x h bad. queried q s x h ∙ ap (given q) (query-damaged box (columnsOf s) (damaged box (columnsOf s) bad) q);
+      text = stopped-at-once;
+      no-room-to-report = report-refuses;
+      too-long-to-run = report-tells-seven;
       registry = λ k s a t h bad.
           let d = registry-damaged box (registry-columns.columnsOf s) bad in (
             registry.called s k a t h .0

@@ -18,14 +18,17 @@ use Rattle.registry.specs.Columns as registry-columns
 use Rattle.registry.specs.declared.PublicationRegistry.{PublicationRegistry}
 use Rattle.store.specs.Columns.{columnsOf, storeOf}
 use Rattle.store.specs.declared.PublicationStore.{PublicationStore}
+use Rattle.trace.proofs.Followed.{blocks-one}
 use Rattle.demands.specs.Calls.{Sound, table-of, stored, Called, Given, given, Queried}
 use Rattle.demands.specs.RegistryCalls.{Registry-sound, registry-of, registered, Registry-made, Registry-called}
 use Rattle.demands.specs.Numbers.{query-number}
+use Rattle.demands.specs.Sessions.{commands}
 use Rattle.demands.specs.Demand2.{By-its-row, Query-by-its-row, Call-by-its-row, Demand2}
 use Rattle.demands.proofs.Calls.{called, queried}
 use Rattle.demands.proofs.RegistryCalls as registry
 use Rattle.demands.proofs.Numbers.{query-carries, query-zero, fixed, never-zero}
 use Rattle.demands.proofs.Sessions.{new-is, session-follows}
+use Rattle.demands.proofs.Texts.{run-is, makes-the-calls}
 
 by-its-row : (c : Command) (s : PublicationStore) (a : Answer-to c) (t : PublicationStore) → Called c s a t → Sound s → By-its-row c s a t
 by-its-row c s a t h k =
@@ -98,6 +101,7 @@ demand2 =
       command = by-its-row;
       query = query-by-its-row;
       registry = call-by-its-row;
+      text = makes-the-calls;
       one-outcome = λ c s t u a b h k.
           (called c s a t h .0 ∙ sym (called c s b u k .0), called c s a t h .1 ∙ sym (called c s b u k .1));
       one-reply = λ q s x y h k. queried q s x h ∙ sym (queried q s y k);
@@ -105,6 +109,9 @@ demand2 =
         registry.called s k a t h .0 ∙ sym (registry.called s k b u j .0),
         registry.called s k a t h .1 ∙ sym (registry.called s k b u j .1),
       );
+      one-run = λ s text out q r left right h j.
+          (run-is s text out q left h .0 ∙ sym (run-is s text out r right j .0), run-is s text out q left h .1 ∙ sym (run-is s text out r right j .1));
+      one-reading = λ xs ys read v w p q. blocks-one (commands xs) (commands ys) read (p .commands-read) (q .commands-read);
       new = λ d s m. (new-is d s m, subst Sound (sym (new-is d s m)) (empty-columns-sound box d));
       stays-sound = λ c s a t h k. subst Sound (sym (called c s a t h .1)) (command-keeps box (columnsOf s) c k);
       session = λ xs t k. (session-follows xs t k .answers, session-follows xs t k .left);

@@ -4,7 +4,10 @@ use borrow.Fn.World.{w₀}
 use Rattle.registry.proofs.PublicationRegistry as registry
 use Rattle.store.proofs.PublicationStore as store
 use Rattle.store.proofs.ValueCell as cell
-use Rattle.demands.specs.EntryPoints.{store-entries, cell-entries, registry-entries, Each-total, none, _and_}
+use Rattle.text.proofs as text
+use Rattle.blocks.proofs as blocks
+use Rattle.trace.proofs as trace
+use Rattle.demands.specs.EntryPoints.{store-entries, cell-entries, registry-entries, trace-entries, Each-total, none, _and_}
 use Rattle.demands.proofs.Ending.{on-the-machine, total}
 
 pub store-ends : Each-total store-entries
@@ -58,4 +61,16 @@ registry-ends =
     and total (registry.release.Reads.known w₀) (on-the-machine registry.release.Met.met) (λ κs a. tt)
     and total (registry.revoke.Reads.known w₀) (on-the-machine registry.revoke.Met.met) (λ κs a. tt)
     and total (registry.reclaim.Reads.known w₀) (on-the-machine registry.reclaim.Met.met) (λ κs a. tt)
+    and none
+
+pub trace-ends : Each-total trace-entries
+trace-ends =
+    total (trace.run.Reads.known w₀) (on-the-machine trace.run.Met.met) (λ κs a. tt)
+    and total (trace.report.Reads.known w₀) (on-the-machine trace.report.Met.met) (λ κs a. tt)
+    and total (blocks.block_at.Reads.known w₀) (on-the-machine blocks.block_at.Met.met) (λ κs a. tt)
+    and total (text.op_at.Reads.known w₀) (on-the-machine text.op_at.Met.met) (λ κs a. tt)
+    and total (text.key_line_at.Reads.known w₀) (on-the-machine text.key_line_at.Met.met) (λ κs a. tt)
+    and total (text.key_code.Reads.known w₀) (on-the-machine text.key_code.Met.met) (λ κs a. tt)
+    and total (text.word_at.Reads.known w₀) (on-the-machine text.word_at.Met.met) (λ κs a. tt)
+    and total (text.read_value.Reads.known w₀) (on-the-machine text.read_value.Met.met) (λ κs a. tt)
     and none

@@ -6,6 +6,9 @@ pub mod RegistryCalls
 pub mod Numbers
 pub mod Sessions
 pub mod Retained
+pub mod Texts
+pub mod Wiped
+pub mod Ledger
 pub mod Demand1
 pub mod Demand2
 pub mod Demand3

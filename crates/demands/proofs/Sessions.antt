@@ -52,8 +52,7 @@ module _ (u : Store) (sound : Store-sound box u) (c : Command) where
       subst (λ (t : PublicationStore). Called c (stored u) (step box u c .answer) t) leaves
       (subst (λ (a : Answer-to c). Called c (stored u) a (store-after (stored u) c)) answers (calls c (stored u)))
 
--- the broker of the rows, and its table after some commands
-
+-- the broker of the rows
 abbrev pub rows : Store → Broker
 rows u = by-the-rows box u
 

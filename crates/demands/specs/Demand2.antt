@@ -6,6 +6,7 @@
 -- The rules are crates/rules/specs/Rows.antt: `tests` is the row of conditions, of which `verdict` finds the first that holds; `result` and
 -- `effect` are what is answered and what the table becomes. That they are drawn from the source is what crates/upstream shows.
 -- Assumes nothing.
+use Prim.Native.Nat.{ℕ}
 use mathlib.Core.Path.{_≡_}
 use mathlib.Core.List.{List}
 use Rattle.rules.specs.Limits.{box}
@@ -23,9 +24,11 @@ use Rattle.rules.specs.declared.Refusal.{Refusal}
 use Rattle.rules.specs.declared.Command.{Command}
 use Rattle.registry.specs.declared.PublicationRegistry.{PublicationRegistry}
 use Rattle.store.specs.declared.PublicationStore.{PublicationStore}
+use Rattle.trace.specs.declared.Stopped.{Stopped}
 use Rattle.demands.specs.Calls.{Sound, table-of, stored, Made, Called, Given, given, Queried}
 use Rattle.demands.specs.RegistryCalls.{Registry-sound, registry-of, registered, Registry-made, Registry-by-default, Registry-called}
 use Rattle.demands.specs.Sessions.{Exchange, Session, commands, by-the-rules}
+use Rattle.demands.specs.Texts.{Run, Written-down, Made-the-calls}
 
 -- a command on a sound store
 pub record By-its-row (c : Command) (s : PublicationStore) (a : Answer-to c) (t : PublicationStore) : Type 0 where
@@ -57,10 +60,18 @@ pub record Demand2 : Type 0 where
       → Registry-called k s a t
       → Registry-sound s
       → Call-by-its-row k s a t
+  -- and so does each block of a text
+  pub text : (s : PublicationStore) (text out : List ℕ) (r : Stopped) (left : List ℕ) → Run s text out r left → Sound s → Made-the-calls s text out r left
   -- "exactly": nothing else can come back
   pub one-outcome : (c : Command) (s t u : PublicationStore) (a b : Answer-to c) → Called c s a t → Called c s b u → (a ≡ b) × (t ≡ u)
   pub one-reply : (q : Query) (s : PublicationStore) (x y : Given q) → Queried q s x → Queried q s y → x ≡ y
   pub one-answer : (k : Call) (s t u : PublicationRegistry) (a b : Call-answer k) → Registry-called k s a t → Registry-called k s b u → (a ≡ b) × (t ≡ u)
+  pub one-run : (s : PublicationStore) (text out : List ℕ) (q r : Stopped) (left right : List ℕ)
+      → Run s text out q left
+      → Run s text out r right
+      → (q ≡ r) × (left ≡ right)
+  -- and a text is that of one list of commands only
+  pub one-reading : (xs ys : List Exchange) (read v w : List ℕ) → Written-down xs read v → Written-down ys read w → commands xs ≡ commands ys
   -- a new store is the empty one and sound, and a sound one stays sound: so the rows answer every command of a session, and give the whole
   -- table after it
   pub new : (d : Domain) (s : PublicationStore) → Made d s → (s ≡ stored (empty-store d)) × Sound s

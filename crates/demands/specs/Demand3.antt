@@ -8,7 +8,7 @@
 --
 -- What a history says, `holding`, `outstanding`, `unreleased`, `accepted`, `handed-back`, stands in crates/rules/specs/History.antt.
 -- Assumes nothing.
-use Prim.Native.Nat.{ℕ, _+_}
+use Prim.Native.Nat.{ℕ, _+_, _≤_}
 use mathlib.Core.Path.{_≡_}
 use mathlib.Core.Logic.{_≢_}
 use mathlib.Core.List.{List, [], _∷_, _++_}
@@ -25,15 +25,19 @@ use Rattle.rules.specs.declared.Refusal.the-variants.{Relied}
 use Rattle.rules.specs.declared.Command.{Command}
 use Rattle.rules.specs.declared.Command.the-variants.{Revoke, Reclaim, Observe, Count}
 use Rattle.store.specs.declared.PublicationStore.{PublicationStore}
-use Rattle.demands.specs.Calls.{Called}
+use Rattle.trace.specs.Report.{longest, report-room, line-room}
+use Rattle.trace.specs.declared.Stopped.{Stopped}
+use Rattle.trace.specs.declared.Reported.{Reported}
+use Rattle.demands.specs.Calls.{Made, Called}
 use Rattle.demands.specs.Sessions.{Exchange, Session, _answered_, commands, happened}
+use Rattle.demands.specs.Texts.{Run, Report, Made-the-calls, Told-a-session}
 use Rattle.demands.specs.Retained.{retained-at, retained}
 
-module _ (p : PublicationId) (earlier between : List Exchange) where
-  -- of the leases of p outstanding at its revoke, by the history of answers, those that are not released since
-  abbrev pub left : List LeaseId
-  left = unreleased (outstanding p (happened earlier)) (happened between)
+-- of the leases of p outstanding at its revoke, by the history of answers, those that are not released since
+abbrev pub left : PublicationId → (earlier since : List Exchange) → List LeaseId
+left p earlier since = unreleased (outstanding p (happened earlier)) (happened since)
 
+module _ (p : PublicationId) (earlier between : List Exchange) where
   -- a session in which p, published and not yet reclaimed by then, is revoked, and later a reclaim of it is answered
   pub record Wiping (a : Answer-to (Reclaim p)) : Type 0 where
     pub later : List Exchange
@@ -43,8 +47,7 @@ module _ (p : PublicationId) (earlier between : List Exchange) where
 
   -- that reclaim is the next after the last of those releases: each one before it stands where a lease is left
   abbrev pub Next : Type 0
-  Next = (before after : List Exchange) (b : Answer-to (Reclaim p)) → between ≡ before ++ (Reclaim p answered b) ∷ after
-      → unreleased (outstanding p (happened earlier)) (happened before) ≢ []
+  Next = (before after : List Exchange) (b : Answer-to (Reclaim p)) → between ≡ before ++ (Reclaim p answered b) ∷ after → left p earlier before ≢ []
 
 pub record Demand3 : Type 0 where
   -- "Take any sequence of commands from an empty store": there is a session of it
@@ -73,3 +76,14 @@ pub record Demand3 : Type 0 where
   pub observed : (xs : List Exchange) (t : PublicationStore) → Session xs t → (p : PublicationId) (a : Answer-to (Observe p)) (u : PublicationStore)
       → Called (Observe p) t a u
       → shown p a ≡ retained-at t p
+  -- all of this holds of bytes: a text run on a new store is a session, of the commands read and the answers written
+  pub text : (d : Domain) (s : PublicationStore) (text out : List ℕ) (r : Stopped) (left : List ℕ)
+      → Made d s
+      → Run s text out r left
+      → (b : Made-the-calls s text out r left) × Session (b .exchanges) (r .store)
+  -- and so is a text that is reported
+  pub report : (text out : List ℕ) (r : Reported) (left : List ℕ)
+      → Report text out r left
+      → report-room + line-room ≤ length out
+      → length text ≤ longest
+      → Told-a-session text r left

@@ -1,18 +1,21 @@
--- The entry points: every public call of the store, of the value cell and of the registry, each with the contract that its source states and
--- the routine that the machine runs.
+-- The entry points: every public call of the store, of the value cell, of the registry, of the trace and of its text, each with the
+-- contract that its source states and the routine that the machine runs.
 -- Assumes nothing.
+use Prim.Native.Nat.{ℕ}
 use mathlib.Core.List.{List, [], _∷_}
 use prog.Routine.{Routine}
 use borrow.Fn.Kinds.{PK, RK, In, Out}
 use Rattle.registry.proofs.PublicationRegistry as registry
 use Rattle.store.proofs.PublicationStore as store
 use Rattle.store.proofs.ValueCell as cell
+use Rattle.text.proofs as text
+use Rattle.blocks.proofs as blocks
+use Rattle.trace.proofs as trace
 use Rattle.demands.specs.Ends.{Entry, Total}
 
--- a call without references
-abbrev pub entry : (ps : List (PK 0)) (r : RK 0) → In 0 ps → Out 0 ps r → Routine → Entry
-entry ps r asks promises routine =
-    record { lifetimes = 0; parameters = ps; result = r; asks = asks; promises = promises; routine = routine }
+abbrev pub entry : {n : ℕ} (ps : List (PK n)) (r : RK n) → In n ps → Out n ps r → Routine → Entry
+entry {n} ps r asks promises routine =
+    record { lifetimes = n; parameters = ps; result = r; asks = asks; promises = promises; routine = routine }
 
 abbrev pub store-entries : List Entry
 store-entries =
@@ -65,6 +68,18 @@ registry-entries =
     ∷ entry registry.release.Kinds.ps registry.release.Kinds.r registry.release.Reads.Asked registry.release.Reads.Post registry.release.Symbol.routine
     ∷ entry registry.revoke.Kinds.ps registry.revoke.Kinds.r registry.revoke.Reads.Asked registry.revoke.Reads.Post registry.revoke.Symbol.routine
     ∷ entry registry.reclaim.Kinds.ps registry.reclaim.Kinds.r registry.reclaim.Reads.Asked registry.reclaim.Reads.Post registry.reclaim.Symbol.routine
+    ∷ []
+
+abbrev pub trace-entries : List Entry
+trace-entries =
+    entry trace.run.Kinds.ps trace.run.Kinds.r trace.run.Reads.Asked trace.run.Reads.Post trace.run.Symbol.routine
+    ∷ entry trace.report.Kinds.ps trace.report.Kinds.r trace.report.Reads.Asked trace.report.Reads.Post trace.report.Symbol.routine
+    ∷ entry blocks.block_at.Kinds.ps blocks.block_at.Kinds.r blocks.block_at.Reads.Asked blocks.block_at.Reads.Post blocks.block_at.Symbol.routine
+    ∷ entry text.op_at.Kinds.ps text.op_at.Kinds.r text.op_at.Reads.Asked text.op_at.Reads.Post text.op_at.Symbol.routine
+    ∷ entry text.key_line_at.Kinds.ps text.key_line_at.Kinds.r text.key_line_at.Reads.Asked text.key_line_at.Reads.Post text.key_line_at.Symbol.routine
+    ∷ entry text.key_code.Kinds.ps text.key_code.Kinds.r text.key_code.Reads.Asked text.key_code.Reads.Post text.key_code.Symbol.routine
+    ∷ entry text.word_at.Kinds.ps text.word_at.Kinds.r text.word_at.Reads.Asked text.word_at.Reads.Post text.word_at.Symbol.routine
+    ∷ entry text.read_value.Kinds.ps text.read_value.Kinds.r text.read_value.Reads.Asked text.read_value.Reads.Post text.read_value.Symbol.routine
     ∷ []
 
 infixr 20 _and_

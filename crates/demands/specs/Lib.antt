@@ -5,6 +5,7 @@ pub mod RegistryCalls
 pub mod Numbers
 pub mod Sessions
 pub mod Retained
+pub mod Texts
 pub mod Demand1
 pub mod Demand2
 pub mod Demand3
