@@ -16,7 +16,7 @@ use Rattle.trace.specs.Run.{run}
 use Rattle.trace.proofs.Stops.{why}
 use Rattle.demands.specs.Calls.{Called, Applied, given}
 use Rattle.demands.specs.Demand1.{Ends-with-an-answer, Tests-what-it-is-handed, Carries-its-number, Changes-nothing, Demand1}
-use Rattle.demands.proofs.EntryPoints.{store-ends, cell-ends, registry-ends, trace-ends}
+use Rattle.demands.proofs.EntryPoints.{store-ends, cell-ends, registry-ends, columns-ends, trace-ends, readers-end, embed-ends}
 use Rattle.demands.proofs.Calls.{answer-on, store-after, called, calls, applied, applies, queried}
 use Rattle.demands.proofs.RegistryCalls as registry
 use Rattle.demands.proofs.Texts.{run-is, stopped-at-once, report-refuses, report-tells-seven}
@@ -37,7 +37,10 @@ ends =
       store = store-ends;
       cell = cell-ends;
       registry = registry-ends;
+      columns = columns-ends;
       trace = trace-ends;
+      readers = readers-end;
+      embed = embed-ends;
       command = λ c s. (answer-on s c, store-after s c, calls c s);
       either-way = λ c s a t.
           (λ h. same Applied c s a t (called c s a t h) (applies c s), λ h. same Called c s a t (applied c s a t h) (calls c s));

@@ -28,7 +28,7 @@ use Rattle.trace.specs.Embedding.{stoppedOf}
 use Rattle.trace.specs.Report.{longest, report-room, line-room, stop-line}
 use Rattle.trace.specs.declared.Stopped.{Stopped}
 use Rattle.trace.specs.declared.Reported.{Reported}
-use Rattle.demands.specs.EntryPoints.{store-entries, cell-entries, registry-entries, trace-entries, Each-total}
+use Rattle.demands.specs.EntryPoints.{store-entries, cell-entries, registry-entries, columns-entries, trace-entries, embed-entries, Each-total, Readers-total}
 use Rattle.demands.specs.Calls.{Sound, Called, Applied, Given, given, Queried}
 use Rattle.demands.specs.RegistryCalls.{Registry-sound, Registry-called}
 use Rattle.demands.specs.Texts.{Run, Report}
@@ -40,7 +40,10 @@ pub record Ends-with-an-answer : Type 3 where
   pub store : Each-total store-entries
   pub cell : Each-total cell-entries
   pub registry : Each-total registry-entries
+  pub columns : Each-total columns-entries
   pub trace : Each-total trace-entries
+  pub readers : Readers-total
+  pub embed : Each-total embed-entries
   -- so there is an answer to any command on any store, from the command's own call or from the one call that takes any
   pub command : (c : Command) (s : PublicationStore) → (a : Answer-to c) × (t : PublicationStore) × Called c s a t
   pub either-way : (c : Command) (s : PublicationStore) (a : Answer-to c) (t : PublicationStore) → Called c s a t ↔ Applied c s a t
