@@ -11,9 +11,8 @@ ghost use Rattle.rules.specs.Queries.{reply, contains-handle};
 ghost use Rattle.rules.specs.Calls.{laid-out};
 ghost use Rattle.store.specs.Columns.{columnsOf, storeOf};
 ghost use Rattle.registry.specs.Answers.{idAnswerOf, countAnswerOf};
-ghost use Rattle.store.specs.Answers.{readAnswerOf, observeAnswerOf, containedOf, publishedOf, changedOf, acquiredOf, replacedOf, reclaimedOf, appliedInside};
+ghost use Rattle.store.specs.Answers.{readAnswerOf, observeAnswerOf, containedOf, publishedOf, changedOf, acquiredOf, replacedOf, reclaimedOf};
 use crate::Acquired;
-use crate::Applied;
 use crate::Changed;
 use crate::Contained;
 use crate::HandleAnswer;
@@ -35,7 +34,6 @@ use registry::CountAnswer;
 use registry::IdAnswer;
 use registry::LeaseIdAnswer;
 use registry::Plain;
-use rules::Command;
 use rules::Consumer;
 use rules::Domain;
 use rules::Lease;
@@ -47,7 +45,8 @@ use rules::Publication;
 use rules::PublicationId;
 use rules::Reading;
 use rules::Refusal;
-use rules::Response;
+
+pub mod any;
 
 pub fn empty(domain: Domain) -> PublicationStore
     ensures { λ r. ⌜ r ≡ storeOf (filled box (empty-store domain)) ⌝ }
@@ -391,177 +390,5 @@ pub fn reclaim(mut store: PublicationStore, id: PublicationId) -> Reclaimed
                 store: store,
             }
         }
-    }
-}
-
-// Any command.
-pub fn apply(store: PublicationStore, command: Command) -> Applied
-    requires { ⌜ Store-columns-sound box (columnsOf store) ⌝ }
-    ensures { λ r. ⌜ r ≡ appliedInside (used (columnsOf store)) command ⌝ }
-{
-    match command {
-        Command::Publish {
-            owner,
-            generation,
-            port,
-            payload,
-        } => {
-            let o = publish(store, owner, generation, port, payload);
-            let left = o.store;
-            let answer = o.answer;
-            match answer {
-                PublishAnswer::Refused(r, h) => Applied {
-                    response: Response::Returned(r, h),
-                    store: left,
-                },
-                PublishAnswer::Id(p) => Applied {
-                    response: Response::Id(p),
-                    store: left,
-                },
-            }
-        }
-        Command::Adopt {
-            id,
-            owner,
-            generation,
-        } => {
-            let o = adopt(store, id, owner, generation);
-            let left = o.store;
-            let answer = o.answer;
-            match answer {
-                Plain::Refused(r) => Applied {
-                    response: Response::Refused(r),
-                    store: left,
-                },
-                Plain::Done => Applied {
-                    response: Response::Done,
-                    store: left,
-                },
-            }
-        }
-        Command::Acquire {
-            id,
-            owner,
-            generation,
-        } => {
-            let o = acquire_for(store, id, owner, generation);
-            let left = o.store;
-            let answer = o.answer;
-            match answer {
-                LeaseIdAnswer::Refused(r) => Applied {
-                    response: Response::Refused(r),
-                    store: left,
-                },
-                LeaseIdAnswer::Id(l) => Applied {
-                    response: Response::Lease(l),
-                    store: left,
-                },
-            }
-        }
-        Command::Release { lease } => {
-            let o = release(store, lease);
-            let left = o.store;
-            let answer = o.answer;
-            match answer {
-                Plain::Refused(r) => Applied {
-                    response: Response::Refused(r),
-                    store: left,
-                },
-                Plain::Done => Applied {
-                    response: Response::Done,
-                    store: left,
-                },
-            }
-        }
-        Command::Revoke { id } => {
-            let o = revoke(store, id);
-            let left = o.store;
-            let answer = o.answer;
-            match answer {
-                Plain::Refused(r) => Applied {
-                    response: Response::Refused(r),
-                    store: left,
-                },
-                Plain::Done => Applied {
-                    response: Response::Done,
-                    store: left,
-                },
-            }
-        }
-        Command::Replace {
-            id,
-            owner,
-            generation,
-            payload,
-        } => {
-            let o = replace(store, id, owner, generation, payload);
-            let left = o.store;
-            let answer = o.answer;
-            match answer {
-                ReplaceAnswer::Refused(r, h) => Applied {
-                    response: Response::Returned(r, h),
-                    store: left,
-                },
-                ReplaceAnswer::Earlier(h) => Applied {
-                    response: Response::Handle(h),
-                    store: left,
-                },
-            }
-        }
-        Command::Reclaim { id } => {
-            let o = reclaim(store, id);
-            let left = o.store;
-            let answer = o.answer;
-            match answer {
-                HandleAnswer::Refused(r) => Applied {
-                    response: Response::Refused(r),
-                    store: left,
-                },
-                HandleAnswer::Handle(h) => Applied {
-                    response: Response::Handle(h),
-                    store: left,
-                },
-            }
-        }
-        Command::Read { lease } => match leased_observation(store, lease) {
-            ReadAnswer::Refused(r) => Applied {
-                response: Response::Refused(r),
-                store: store,
-            },
-            ReadAnswer::Read(x) => Applied {
-                response: Response::Read(x),
-                store: store,
-            },
-        },
-        Command::Observe { id } => match observation(store, id) {
-            ObserveAnswer::Refused(r) => Applied {
-                response: Response::Refused(r),
-                store: store,
-            },
-            ObserveAnswer::Observed(x) => Applied {
-                response: Response::Observed(x),
-                store: store,
-            },
-        },
-        Command::Resolve { port } => match resolve(store, port) {
-            IdAnswer::Refused(r) => Applied {
-                response: Response::Refused(r),
-                store: store,
-            },
-            IdAnswer::Id(p) => Applied {
-                response: Response::Id(p),
-                store: store,
-            },
-        },
-        Command::Count => match retained_count(store) {
-            CountAnswer::Refused(r) => Applied {
-                response: Response::Refused(r),
-                store: store,
-            },
-            CountAnswer::Count(n) => Applied {
-                response: Response::Count(n),
-                store: store,
-            },
-        },
     }
 }

@@ -366,7 +366,7 @@ impl PublicationStore {
         ensures { λ r. ⌜ r ≡ appliedOf (columnsOf self) command ⌝ }
     {
         if inner::is_sound(self) {
-            return inner::apply(self, command);
+            return inner::any::apply(self, command);
         }
         let response = bad_table(command);
         Applied {

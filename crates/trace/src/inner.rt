@@ -35,7 +35,7 @@ pub fn run(store: PublicationStore, trace: &[u8], out: &mut [u8], room: usize) -
         match block_at(trace, i) {
             Block::Unfinished | Block::Wrong => return stopped(left, 11, blocks, i, at),
             Block::Got(command, next) => {
-                let a = store::inner::apply(left, command);
+                let a = store::inner::any::apply(left, command);
                 let s = a.store;
                 let r = a.response;
                 at = put_response_at(out, at, r);

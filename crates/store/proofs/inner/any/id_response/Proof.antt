@@ -1,0 +1,8 @@
+-- `id_response` meets its contract, case by case.
+-- Assumes nothing.
+use borrow.Author.Needs.{needs}
+use Rattle.store.proofs.inner.any.id_response.Statement.{statement}
+use Rattle.store.proofs.inner.any.id_response.Tie as tie
+
+pub id-response-spec : {M : Type 1} → statement M
+id-response-spec = tie.close (tie.spec (λ c. search needs) (λ c. search needs) (λ c. cc) (λ c. cc))

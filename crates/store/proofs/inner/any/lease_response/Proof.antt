@@ -1,0 +1,8 @@
+-- `lease_response` meets its contract, case by case.
+-- Assumes nothing.
+use borrow.Author.Needs.{needs}
+use Rattle.store.proofs.inner.any.lease_response.Statement.{statement}
+use Rattle.store.proofs.inner.any.lease_response.Tie as tie
+
+pub lease-response-spec : {M : Type 1} → statement M
+lease-response-spec = tie.close (tie.spec (λ c. search needs) (λ c. search needs) (λ c. cc) (λ c. cc))
