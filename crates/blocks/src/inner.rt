@@ -1,36 +1,17 @@
 // Answer blocks written at the start of an output, or from a place of it on; every other byte stays.
 // These are no entry points: 96 bytes of room, which hold every answer, are for the caller to see to.
-use rules::Refusal;
 use rules::Response;
+use writing::inner::number_of;
 use writing::inner::put_line;
 use writing::inner::put_line_at;
 ghost use mathlib.Core.Path.{_≡_};
 ghost use mathlib.Core.List.{[], _∷_};
 ghost use Prim.Native.Nat.{_+_, _≤_};
 ghost use lib.ListN.{length};
-ghost use Rattle.rules.specs.Refusals.{refusal-number};
 ghost use Rattle.text.specs.Keys.{answer};
 ghost use Rattle.text.specs.Lines.{line-text};
 ghost use Rattle.writing.specs.Written.{over, over-from};
 ghost use Rattle.blocks.specs.Answers.{_is_, lines-text, answer-text};
-
-// A refusal's number.
-fn number_of(r: Refusal) -> u64
-    ensures { λ n. ⌜ n ≡ refusal-number r ⌝ }
-{
-    match r {
-        Refusal::Unknown => 1,
-        Refusal::Revoked => 2,
-        Refusal::Conflict => 3,
-        Refusal::Relied => 4,
-        Refusal::Visible => 5,
-        Refusal::Released => 6,
-        Refusal::Capacity => 7,
-        Refusal::InvalidState => 8,
-        Refusal::BadTable => 9,
-        Refusal::Absent => 10,
-    }
-}
 
 // The line answer=0, and then one value.
 fn put_value(out: &mut [u8], code: u8, v: u64) -> usize

@@ -1,8 +1,6 @@
 // The day of one handle, through the store's public calls: a box publishes a key's place, two readers take leases, the key is replaced, the
 // wipe job revokes it and waits until both leases are back, and the reclaim hands over the handle to erase. Each answer is printed with its
 // number and name. Then a damaged store and a damaged registry are handed to every public call, and each answers 9.
-ghost use mathlib.Core.Path.{_≡_};
-ghost use Rattle.rules.specs.Refusals.{refusal-number};
 use libc::STDOUT_FILENO;
 use registry::CountAnswer;
 use registry::DomainAnswer;
@@ -18,7 +16,6 @@ use rules::LeaseId;
 use rules::Owner;
 use rules::Port;
 use rules::PublicationId;
-use rules::Refusal;
 use rules::Response;
 use store::HandleAnswer;
 use store::LeasedAnswer;
@@ -27,23 +24,8 @@ use store::PublicationStore;
 use store::PublishAnswer;
 use store::ReadAnswer;
 use store::ReplaceAnswer;
-
-fn number_of(r: Refusal) -> u64
-    ensures { λ n. ⌜ n ≡ refusal-number r ⌝ }
-{
-    match r {
-        Refusal::Unknown => 1,
-        Refusal::Revoked => 2,
-        Refusal::Conflict => 3,
-        Refusal::Relied => 4,
-        Refusal::Visible => 5,
-        Refusal::Released => 6,
-        Refusal::Capacity => 7,
-        Refusal::InvalidState => 8,
-        Refusal::BadTable => 9,
-        Refusal::Absent => 10,
-    }
-}
+use writing::inner::number_of;
+use writing::inner::put_name;
 
 // What was asked, and the answer's number and name.
 fn say(what: &[u8], number: u64) {
@@ -52,7 +34,7 @@ fn say(what: &[u8], number: u64) {
     io::print_decimal(STDOUT_FILENO, number);
     io::write_all(STDOUT_FILENO, b" ");
     let mut name = [0u8; 12];
-    let n = writing::inner::put_name(&mut name, number);
+    let n = put_name(&mut name, number);
     io::write_all(STDOUT_FILENO, &name[..n]);
     io::write_all(STDOUT_FILENO, b"\n");
 }

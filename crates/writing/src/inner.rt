@@ -3,11 +3,12 @@
 ghost use mathlib.Core.Path.{_≡_};
 ghost use Prim.Native.Nat.{_+_, _≤_};
 ghost use lib.ListN.{length};
-ghost use Rattle.rules.specs.Refusals.{name-of};
+ghost use Rattle.rules.specs.Refusals.{name-of, refusal-number};
 ghost use Rattle.text.specs.Digits.{digits};
 ghost use Rattle.text.specs.Keys.{key-text};
 ghost use Rattle.text.specs.Lines.{line-text};
 ghost use Rattle.writing.specs.Written.{over, over-from};
+use rules::Refusal;
 
 // The word w.
 pub fn put(out: &mut [u8], w: &[u8]) -> usize
@@ -34,6 +35,24 @@ pub fn put_number(out: &mut [u8], n: u64) -> usize
     let k = put_number(out, n / 10);
     out[k] = 48 + (n % 10) as u8;
     k + 1
+}
+
+// A refusal's number.
+pub fn number_of(r: Refusal) -> u64
+    ensures { λ n. ⌜ n ≡ refusal-number r ⌝ }
+{
+    match r {
+        Refusal::Unknown => 1,
+        Refusal::Revoked => 2,
+        Refusal::Conflict => 3,
+        Refusal::Relied => 4,
+        Refusal::Visible => 5,
+        Refusal::Released => 6,
+        Refusal::Capacity => 7,
+        Refusal::InvalidState => 8,
+        Refusal::BadTable => 9,
+        Refusal::Absent => 10,
+    }
 }
 
 // The name of the number n.
