@@ -8,6 +8,7 @@ use native.Mathlib.Omega.{arith}
 use lib.ListN.{length}
 use lib.Dec.{eqb}
 use Rattle.lists.specs.Every.{Every}
+use Rattle.lists.proofs.Every.{every-mapped}
 use Rattle.lists.proofs.Groups.{joined, every-joined, Group, groups-apart}
 use Rattle.rules.specs.Refusals.{refusal-number}
 use Rattle.rules.specs.Answers.{refused, done, answer-number}
@@ -19,7 +20,7 @@ use Rattle.rules.specs.declared.Response.{Response}
 use Rattle.rules.specs.declared.Response.the-variants as R
 use Rattle.rules.specs.declared.Command.{Command}
 use Rattle.rules.specs.declared.Command.the-variants.{Publish, Adopt, Acquire, Release, Revoke, Replace, Reclaim, Read, Observe, Resolve, Count}
-use Rattle.rules.proofs.Responses.{same-number, same-values}
+use Rattle.rules.proofs.Responses.{same-number, same-values, no-refusal}
 use Rattle.text.specs.Keys.{answer, id, lease, payload, revision, count, wide}
 use Rattle.text.specs.Lines.{line-text}
 use Rattle.blocks.specs.Answers.{Key-value, _is_, value-lines, answer-lines, lines-text, answer-text, answers-text}
@@ -31,17 +32,17 @@ use Rattle.blocks.proofs.LinesApart.{Plain, same-line, line-apart, line
 abbrev pub Wide : Response → Type 0
 Wide r = Every (λ v. v ≤ wide) (response-values r)
 
-refusal-range : (r : Refusal) → (0 < refusal-number r) × (refusal-number r ≤ 10)
-refusal-range Unknown = (omega arith, omega arith)
-refusal-range Revoked = (omega arith, omega arith)
-refusal-range Conflict = (omega arith, omega arith)
-refusal-range Relied = (omega arith, omega arith)
-refusal-range Visible = (omega arith, omega arith)
-refusal-range Released = (omega arith, omega arith)
-refusal-range Capacity = (omega arith, omega arith)
-refusal-range InvalidState = (omega arith, omega arith)
-refusal-range BadTable = (omega arith, omega arith)
-refusal-range Absent = (omega arith, omega arith)
+refusal-most : (r : Refusal) → refusal-number r ≤ 10
+refusal-most Unknown = omega arith
+refusal-most Revoked = omega arith
+refusal-most Conflict = omega arith
+refusal-most Relied = omega arith
+refusal-most Visible = omega arith
+refusal-most Released = omega arith
+refusal-most Capacity = omega arith
+refusal-most InvalidState = omega arith
+refusal-most BadTable = omega arith
+refusal-most Absent = omega arith
 
 -- such a response's lines can be told apart
 
@@ -49,8 +50,8 @@ plain : (k v : ℕ) → k < 10 → v ≤ wide → Plain (k is v)
 plain k v h l = record { known = h; small = omega arith }
 
 answer-plain : (r : Response) → Wide r → Every Plain (answer-lines r)
-answer-plain (R.Refused e) h = (plain answer (refusal-number e) (omega arith) (omega (arith, refusal-range e .1)), tt)
-answer-plain (R.Returned e v) h = (plain answer (refusal-number e) (omega arith) (omega (arith, refusal-range e .1)), tt)
+answer-plain (R.Refused e) h = (plain answer (refusal-number e) (omega arith) (omega (arith, refusal-most e)), tt)
+answer-plain (R.Returned e v) h = (plain answer (refusal-number e) (omega arith) (omega (arith, refusal-most e)), tt)
 answer-plain R.Done h = (plain answer 0 (omega arith) (omega arith), tt)
 answer-plain (R.Id p) h = (plain answer 0 (omega arith) (omega arith), (plain id (p .0) (omega arith) (h .0), tt))
 answer-plain (R.Lease i) h = (plain answer 0 (omega arith) (omega arith), (plain lease (i .0) (omega arith) (h .0), tt))
@@ -112,16 +113,12 @@ answers-lines [] = refl
 answers-lines (r ∷ rs) =
     ap (λ (w : List ℕ). lines-text (answer-lines r) ++ w) (answers-lines rs) ∙ sym (lines-append (answer-lines r) (joined (map answer-lines rs)))
 
-every-answer : (P : List Key-value → Type 0) → (Q : Response → Type 0) → ((r : Response) → Q r → P (answer-lines r)) → (rs : List Response) → Every Q rs → Every P (map answer-lines rs)
-every-answer P Q f [] h = tt
-every-answer P Q f (r ∷ rs) h = (f r (h .0), every-answer P Q f rs (h .1))
-
 -- answers one after the other: the lines of each can be told from those of the next
 pub answers-apart : (rs qs : List Response) → Every Wide rs → Every Wide qs → answers-text rs ≡ answers-text qs → map answer-lines rs ≡ map answer-lines qs
 answers-apart rs qs h k e =
-    groups-apart starts (map answer-lines rs) (map answer-lines qs) (every-answer (Group starts) Wide (λ r w. answer-group r) rs h) (every-answer (Group starts) Wide (λ r w. answer-group r) qs k)
-    (lines-apart (joined (map answer-lines rs)) (joined (map answer-lines qs)) (every-joined Plain (map answer-lines rs) (every-answer (Every Plain) Wide answer-plain rs h))
-    (every-joined Plain (map answer-lines qs) (every-answer (Every Plain) Wide answer-plain qs k)) (sym (answers-lines rs) ∙ e ∙ answers-lines qs))
+    groups-apart starts (map answer-lines rs) (map answer-lines qs) (every-mapped (Group starts) Wide answer-lines (λ r w. answer-group r) rs h) (every-mapped (Group starts) Wide answer-lines (λ r w. answer-group r) qs k)
+    (lines-apart (joined (map answer-lines rs)) (joined (map answer-lines qs)) (every-joined Plain (map answer-lines rs) (every-mapped (Every Plain) Wide answer-lines answer-plain rs h))
+    (every-joined Plain (map answer-lines qs) (every-mapped (Every Plain) Wide answer-lines answer-plain qs k)) (sym (answers-lines rs) ∙ e ∙ answers-lines qs))
 
 -- so answers with the same text have the same numbers and values
 pub answers-say : (rs qs : List Response) → Every Wide rs → Every Wide qs → answers-text rs ≡ answers-text qs
@@ -173,8 +170,8 @@ result-lines Count x y = refl
 
 as-many : (c : Command) (a b : Answer-to c) → answer-number a ≡ answer-number b → length (answer-lines (response-of c a)) ≡ length (answer-lines (response-of c b))
 as-many c (refused r x) (refused s y) e = ap length (refusal-lines c r x) ∙ sym (ap length (refusal-lines c s y))
-as-many c (refused r x) (done y) e = absurd (let z : ⊥ = omega (arith, refusal-range r .0) in z)
-as-many c (done x) (refused s y) e = absurd (let z : ⊥ = omega (arith, refusal-range s .0) in z)
+as-many c (refused r x) (done y) e = absurd (no-refusal r e)
+as-many c (done x) (refused s y) e = absurd (no-refusal s (sym e))
 as-many c (done x) (done y) e = result-lines c x y
 
 pub answer-apart : (c : Command) (a b : Answer-to c) → Wide (response-of c a) → Wide (response-of c b) → (rest left : List ℕ)

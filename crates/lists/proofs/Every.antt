@@ -1,16 +1,16 @@
--- Laws of what holds of every element, and of tests that pass for every number below another.
+-- Laws of what holds of every element, and of tests that pass for every number below another, or for some.
 -- Assumes nothing.
 use Prim.Native.Nat.{ℕ, zero, suc, _<_}
 use mathlib.Core.Path.{_≡_, refl, sym, ap, _∙_}
-use mathlib.Core.Bool.{Bool, true, false, not, _&&_, false≢true}
-use mathlib.Core.List.{List, [], _∷_, _++_}
+use mathlib.Core.Bool.{Bool, true, false, not, _&&_, _||_, false≢true, or-true, or-false}
+use mathlib.Core.List.{List, [], _∷_, _++_, map}
 use mathlib.Core.Logic.{⊎-elim, _↔_}
 use native.Mathlib.Omega.{arith}
 use native.Mathlib.Nat.{not-suc-le-zero, le-of-suc-le-suc, eq-or-lt-of-le}
 use lib.Dec.{eqb}
 use lib.ListN.{length, getD}
 use borrow.Author.Tests.{eqb-true, eq-eqb}
-use Rattle.lists.specs.Every.{every, each-below, Every}
+use Rattle.lists.specs.Every.{every, each-below, some-below, Every}
 use Rattle.lists.proofs.Bools.{and-left, and-right, not-both}
 
 module _ {A : Type 0} where
@@ -34,6 +34,10 @@ module _ {A : Type 0} where
   pub every-is : (P : A → Type 0) (xs : List A) (d : A) → ((i : ℕ) → i < length xs → P (getD xs i d)) → Every P xs
   every-is P [] d f = tt
   every-is P (x ∷ xs) d f = (f zero (omega arith), every-is P xs d (λ i h. f (suc i) (omega arith)))
+
+pub every-mapped : {A B : Type 0} (P : B → Type 0) (Q : A → Type 0) (f : A → B) → ((a : A) → Q a → P (f a)) → (xs : List A) → Every Q xs → Every P (map f xs)
+every-mapped P Q f g [] h = tt
+every-mapped P Q f g (x ∷ xs) h = (g x (h .0), every-mapped P Q f g xs (h .1))
 
 -- a list of tests, and the facts that they all pass
 
@@ -60,6 +64,23 @@ below-at p (suc n) e i h =
 pub below-is : (p : ℕ → Bool) (n : ℕ) → ((i : ℕ) → i < n → p i ≡ true) → each-below n p ≡ true
 below-is p zero f = refl
 below-is p (suc n) f = whole (each-below n p ∷ p n ∷ []) (below-is p n (λ i h. f i (omega arith)), (f n (omega arith), tt))
+
+-- a test that passes for some number below another
+pub some-below-exactly : (p : ℕ → Bool) (n : ℕ) → (some-below n p ≡ true) ↔ ((i : ℕ) × (i < n) × (p i ≡ true))
+some-below-exactly p zero = (λ e. absurd (false≢true e), λ h. absurd (not-suc-le-zero (h .1)))
+some-below-exactly p (suc n) = (to (p n) refl (some-below-exactly p n .0), back (some-below-exactly p n .1))
+  where
+    Found : ℕ → Type 0
+    Found m = (i : ℕ) × (i < m) × (p i ≡ true)
+
+    to : (b : Bool) → p n ≡ b → (some-below n p ≡ true → Found n) → (some-below n p || b) ≡ true → Found (suc n)
+    to true e f h = (n, omega arith, e)
+    to false e f h = let m = f (sym (or-false (some-below n p)) ∙ h) in (m .0, omega (arith, m .1), m .2)
+
+    back : (Found n → some-below n p ≡ true) → Found (suc n) → (some-below n p || p n) ≡ true
+    back f h =
+        ⊎-elim (λ e. let g : p n ≡ true = sym (ap p e) ∙ h .2 in rw g (or-true (some-below n p))) (λ k. rw (f (h .0, k, h .2)))
+        (eq-or-lt-of-le (le-of-suc-le-suc (h .1)))
 
 -- no two numbers that are held share a key: tested pair by pair, each with those below it
 

@@ -1,12 +1,12 @@
 -- Laws of searches.
 -- Assumes nothing.
-use Prim.Native.Nat.{ℕ, zero, suc, _≤_}
+use Prim.Native.Nat.{ℕ, zero, suc, _+_, _≤_}
 use mathlib.Core.Path.{_≡_, refl, sym, _∙_}
 use mathlib.Core.Bool.{Bool, true, false, _||_, cond, false≢true}
 use mathlib.Core.List.{List, [], _∷_, _++_}
 use native.Mathlib.Omega.{arith}
 use lib.ListN.{length, getD}
-use Rattle.lists.specs.Search.{some-pass, first-place, leave-out}
+use Rattle.lists.specs.Search.{some-pass, first-place, how-many, leave-out}
 use Rattle.lists.specs.Every.{Every}
 use Rattle.lists.proofs.Bools.{either, or-left, or-right}
 
@@ -20,6 +20,10 @@ module _ {A : Type 0} (p : A → Bool) where
   pub none-of : (xs : List A) → some-pass p xs ≡ false → Every (λ x. p x ≡ false) xs
   none-of [] e = tt
   none-of (x ∷ xs) e = (or-left (p x) (some-pass p xs) e, none-of xs (or-right (p x) (some-pass p xs) e))
+
+  pub none-found : (xs : List A) → Every (λ x. p x ≡ false) xs → some-pass p xs ≡ false
+  none-found [] h = refl
+  none-found (x ∷ xs) h = rw (h .0) (none-found xs (h .1))
 
   -- where one passes, the first that does stands at its place
   pub first-passes : (xs : List A) (d : A) → some-pass p xs ≡ true → p (getD xs (first-place p xs) d) ≡ true
@@ -50,6 +54,16 @@ module _ {A : Type 0} (p : A → Bool) where
   pub some-snoc : (xs : List A) (a : A) → some-pass p (xs ++ (a ∷ [])) ≡ (some-pass p xs || p a)
   some-snoc [] a = either (λ b. (b || false) ≡ b) refl refl (p a)
   some-snoc (x ∷ xs) a = rw (some-snoc xs a) (either (λ b. (b || (some-pass p xs || p a)) ≡ ((b || some-pass p xs) || p a)) refl refl (p x))
+
+  -- how many pass
+
+  pub how-many-snoc : (xs : List A) (a : A) → how-many p (xs ++ (a ∷ [])) ≡ how-many p xs + cond (p a) 1 0
+  how-many-snoc [] a = omega arith
+  how-many-snoc (x ∷ xs) a = omega (arith, how-many-snoc xs a)
+
+  pub how-many-below : (xs : List A) → how-many p xs ≤ length xs
+  how-many-below [] = omega arith
+  how-many-below (x ∷ xs) = omega (arith, how-many-below xs, either (λ b. cond b 1 0 ≤ 1) (omega arith) (omega arith) (p x))
 
   -- the list without those that pass
 

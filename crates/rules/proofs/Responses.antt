@@ -90,7 +90,7 @@ results-one (Observe p) x y e = cc
 results-one (Resolve q) x y e = cc
 results-one Count x y e = cc
 
-no-refusal : (r : Refusal) → refusal-number r ≡ 0 → ⊥
+pub no-refusal : (r : Refusal) → refusal-number r ≡ 0 → ⊥
 no-refusal Unknown e = omega arith
 no-refusal Revoked e = omega arith
 no-refusal Conflict e = omega arith

@@ -1,19 +1,19 @@
 -- Going through the records in use: how many are retained, and whether one holds a handle.
 -- Assumes nothing.
-use Prim.Native.Nat.{ℕ, zero, suc, _+_, _≤_, _<_}
+use Prim.Native.Nat.{ℕ, _+_, _≤_, _<_}
 use mathlib.Core.Path.{_≡_, refl, sym, ap, subst, _∙_}
 use mathlib.Core.Logic.{_⊎_, ⊎-elim}
-use mathlib.Core.Bool.{Bool, true, false, _&&_, _||_, cond}
-use mathlib.Core.List.{List, [], _∷_, _++_}
+use mathlib.Core.Bool.{Bool, true, false, _&&_, cond}
+use mathlib.Core.List.{List}
 use native.Mathlib.Numerals.{add-one}
 use native.Mathlib.Omega.{arith}
-use native.Mathlib.Nat.{not-suc-le-zero, le-of-suc-le-suc, eq-or-lt-of-le}
 use lib.Dec.{eqb}
 use lib.ListN.{length, take, getD}
 use lib.Seq.{take-suc}
 use Rattle.lists.specs.Search.{how-many}
 use Rattle.lists.specs.Every.{some-below}
-use Rattle.lists.proofs.Bools.{either}
+use Rattle.lists.proofs.Search.{how-many-snoc}
+use Rattle.lists.proofs.Every.{some-below-exactly}
 use Rattle.rules.specs.Limits.{Limits}
 use Rattle.rules.specs.Table.{at, publication-of, payload-of}
 use Rattle.rules.specs.Columns.{StoreColumns, used}
@@ -27,20 +27,6 @@ use Rattle.registry.specs.Answers.{countAnswerOf}
 use Rattle.registry.specs.declared.CountAnswer.the-variants as count
 use Rattle.registry.specs.declared.Plain.the-variants as plain
 use Rattle.store.specs.Answers.{containedOf}
-
--- of lists
-
-how-many-snoc : {A : Type 0} (p : A → Bool) (xs : List A) (a : A) → how-many p (xs ++ (a ∷ [])) ≡ how-many p xs + cond (p a) 1 0
-how-many-snoc p [] a = omega arith
-how-many-snoc p (x ∷ xs) a = omega (arith, how-many-snoc p xs a)
-
-some-at : (p : ℕ → Bool) (n i : ℕ) → i < n → p i ≡ true → some-below n p ≡ true
-some-at p zero i h e = absurd (not-suc-le-zero h)
-some-at p (suc n) i h e =
-    ⊎-elim (λ q. last q) (λ k. rw (some-at p n i k e)) (eq-or-lt-of-le (le-of-suc-le-suc h))
-  where
-    last : i ≡ n → (some-below n p || p n) ≡ true
-    last q = rw (← q, e) (either (λ b. (b || true) ≡ true) refl refl (some-below i p))
 
 -- the walk over the first n has come to i, and k of those before it pass
 pub record Counting {A : Type 0} (p : A → Bool) (l : List A) (n size i k : ℕ) : Type 0 where
@@ -88,7 +74,7 @@ module _ {L : Limits} {c : StoreColumns} (h : Store-columns-sound L c) (v : ℕ)
   pub one-holds : (i : ℕ) → i < c .registry .count → holds c v i ≡ true
       → record { answer = plain.Done; present = true } ≡ containedOf (reply L (used c) (contains-handle v))
   one-holds i k e =
-      let u : holds-handle (used c) v ≡ true = rw (count-used L (c .registry) (registry-columns L c h)) (some-at (holds c v) (c .registry .count) i k e) in
+      let u : holds-handle (used c) v ≡ true = rw (count-used L (c .registry) (registry-columns L c h)) (some-below-exactly (holds c v) (c .registry .count) .1 (i, k, e)) in
       sym (ap containedOf (query-answered-exactly L (used c) (contains-handle v) .1 refl) ∙ rw u)
 
   pub none-holds : {i : ℕ} → i ≤ c .registry .count → c .registry .count ≤ i → some-below i (holds c v) ≡ false

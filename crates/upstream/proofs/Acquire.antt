@@ -9,6 +9,7 @@ use mathlib.Core.Option.{some}
 use native.Mathlib.Omega.{arith}
 use borrow.Author.Tests.{eq-eqb, ne-eqb}
 use Rattle.lists.proofs.Every.{every-map}
+use Rattle.lists.proofs.Search.{none-found}
 use Rattle.rules.specs.Limits.{Limits}
 use Rattle.rules.specs.Answers.{refused}
 use Rattle.rules.specs.Commands.{Answer-to}
@@ -34,7 +35,7 @@ use Rattle.rules.proofs.Acquisition.{acquire-exactly, store-acquire-exactly, Le
 use Rattle.upstream.specs.Answers.{is-ok, If-ok, If-err}
 use Rattle.upstream.specs.Registry.{domain-id, publications, lease-records, lease-allocations, active-lease, Unchanged, Registry-wf}
 use Rattle.upstream.specs.Store.{registry-view, values, revisions, Store-wf, Same}
-use Rattle.upstream.proofs.Searches.{none-found, first-snoc}
+use Rattle.upstream.proofs.Searches.{first-snoc}
 use Rattle.upstream.proofs.Outcomes.{call-done, call-refusals, call-unchanged, call-wf, call-if-ok, command-done, command-same, command-wf, command-if-ok}
 
 -- R14: is there room for so many leases more?

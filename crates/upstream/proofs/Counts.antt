@@ -12,6 +12,8 @@ use lib.ListN.{length, getD}
 use borrow.Author.Tests.{eqb-true, eq-eqb}
 use Rattle.lists.specs.Search.{how-many}
 use Rattle.lists.proofs.Bools.{either}
+use Rattle.lists.proofs.Search.{how-many-below}
+use Rattle.lists.proofs.Every.{some-below-exactly}
 use Rattle.rules.specs.Limits.{Limits}
 use Rattle.rules.specs.Answers.{done}
 use Rattle.rules.specs.Commands.{Answer-to}
@@ -25,7 +27,6 @@ use Rattle.rules.specs.declared.Command.the-variants.{Count}
 use Rattle.upstream.specs.Answers.{If-ok, is-some}
 use Rattle.upstream.specs.Registry.{publications, lease-records, lease-allocations, publication-at}
 use Rattle.upstream.specs.Store.{held, values, value-at}
-use Rattle.upstream.proofs.Searches.{some-below-exactly}
 use Rattle.upstream.proofs.Wf.{length-values, value-is}
 use Rattle.upstream.proofs.Outcomes.{command-if-ok}
 
@@ -66,10 +67,6 @@ how-many-held (e ∷ es) [] n = absurd (omega arith)
 how-many-held (e ∷ es) (h ∷ hs) n =
     rw (how-many-held es hs (omega arith))
     (either (λ b. cond b 1 0 + how-many is-some (held es hs) ≡ cond (is-some (cond b (some h) none)) 1 0 + how-many is-some (held es hs)) refl refl (e .retained))
-
-how-many-below : {A : Type 0} (p : A → Bool) (xs : List A) → how-many p xs ≤ length xs
-how-many-below p [] = omega arith
-how-many-below p (x ∷ xs) = omega (arith, how-many-below p xs, either (λ b. cond b 1 0 ≤ 1) (omega arith) (omega arith) (p x))
 
 module _ (L : Limits) (s : Store) (h : Store-sound L s) where
   abbrev same-number : Type 0

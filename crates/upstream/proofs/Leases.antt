@@ -10,7 +10,8 @@ use lib.ListN.{length}
 use borrow.Author.Tests.{eqb-true, eqb-false, eq-eqb, ne-eqb, lt-leb, not-false}
 use Rattle.lists.specs.Search.{first-place}
 use Rattle.lists.proofs.Bools.{never-true}
-use Rattle.lists.proofs.Search.{none-of, first-passes, first-every}
+use Rattle.lists.proofs.Search.{none-of, none-found, first-passes, first-every}
+use Rattle.lists.proofs.Scan.{passes-at, first-below}
 use Rattle.lists.proofs.Every.{every-at, every-is}
 use Rattle.rules.specs.Limits.{Limits}
 use Rattle.rules.specs.Table.{Registry, blank-lease, at}
@@ -24,7 +25,7 @@ use Rattle.rules.proofs.Clear.{Clear}
 use Rattle.upstream.specs.Answers.{is-some}
 use Rattle.upstream.specs.Registry.{lease-records, lease-at, active-lease, Unleased}
 use Rattle.upstream.proofs.Numbers.{same-id, same-lease}
-use Rattle.upstream.proofs.Searches.{none-found, found-below, is-some-first, first-is, first-none, first-below}
+use Rattle.upstream.proofs.Searches.{is-some-first, first-is, first-none}
 use Rattle.upstream.proofs.Wf.{one-place}
 
 module _ (t : Registry) (i : LeaseId) where
@@ -50,7 +51,7 @@ module _ (t : Registry) (i : LeaseId) where
 
   found-there : (n : ℕ) → n < length (lease-records t) → lease-at t n .id ≡ i → active t i ≡ true
   found-there n h e =
-      found-below (is-lease i) (t .leases) blank-lease n h (eq-eqb (lease-at t n .id .0) (i .0) (ap (λ (j : LeaseId). j .0) e))
+      passes-at (is-lease i) (t .leases) n blank-lease h (eq-eqb (lease-at t n .id .0) (i .0) (ap (λ (j : LeaseId). j .0) e))
 
   -- R21: where it is, or that it is nowhere
 

@@ -12,6 +12,7 @@ use lib.ListN.{length}
 use borrow.Author.Tests.{eqb-true, ne-eqb, not-false}
 use Rattle.lists.specs.Search.{some-pass, first-place, leave-out}
 use Rattle.lists.proofs.Every.{every-map}
+use Rattle.lists.proofs.Removal.{leave-none}
 use Rattle.rules.specs.Limits.{Limits}
 use Rattle.rules.specs.Answers.{Answer, Verdict, Outcome, _⇒_, refused, done, pass, stop, verdict, carry}
 use Rattle.rules.specs.Commands.{Answer-to}
@@ -32,7 +33,7 @@ use Rattle.upstream.specs.Answers.{is-some, If-ok, If-err}
 use Rattle.upstream.specs.Registry.{without-at, domain-id, publications, lease-records, lease-allocations, lease-at, active-lease, Unchanged, Registry-wf}
 use Rattle.upstream.specs.Store.{registry-view, values, revisions, Store-wf, Same}
 use Rattle.upstream.proofs.Numbers.{same-lease}
-use Rattle.upstream.proofs.Searches.{first-gone, nothing-left-out, first-left, length-without}
+use Rattle.upstream.proofs.Searches.{first-gone, first-left, length-without}
 use Rattle.upstream.proofs.Leases.{is-active, lease-there}
 use Rattle.upstream.proofs.Outcomes.{call-unchanged, call-wf, call-if-ok, command-same, command-wf}
 
@@ -87,7 +88,7 @@ one-left-out i (l ∷ ls) r e = go (is-lease i l) refl (one-left-out i ls (r .1)
         → (b || some-pass (is-lease i) ls) ≡ true
         → cond b out (l ∷ out) ≡ without-at (cond b 0 (suc first)) (l ∷ ls)
     go true h f m =
-        nothing-left-out (is-lease i) ls
+        leave-none (is-lease i) ls
         (every-map (λ k. l .id .0 < k .id .0) (λ k. is-lease i k ≡ false)
         (λ k n. ne-eqb (k .id .0) (i .0) (λ c. omega (arith, eqb-true (l .id .0) (i .0) h)))
         ls
