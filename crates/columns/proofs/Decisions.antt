@@ -7,13 +7,14 @@ use mathlib.Core.List.{List, [], _∷_, _++_}
 use borrow.Author.Tests.{le-leb, lt-leb}
 use lib.Dec.{leb, eqb}
 use lib.ListN.{length, take}
+use lib.Seq.{getD-take}
 use Rattle.lists.proofs.Scan.{length-take-sized}
 use Rattle.rules.specs.Limits.{Limits}
 use Rattle.rules.specs.Answers as rows
 use Rattle.rules.specs.Answers.{Test, _⇒_, verdict}
-use Rattle.rules.specs.Table.{Registry, at}
+use Rattle.rules.specs.Table.{Registry, blank-publication, at}
 use Rattle.rules.specs.Conditions.{unknown, owned-by, leased, full, port-held, slot-held}
-use Rattle.rules.specs.Columns.{used-registry}
+use Rattle.rules.specs.Columns.{RegistryColumns, used-registry}
 use Rattle.rules.specs.Rows.{publish-row, adopt-row, reclaim-row}
 use Rattle.rules.specs.RegistryRows.{slot-publish-row}
 use Rattle.rules.specs.declared.Publication.{Publication}
@@ -53,7 +54,19 @@ abbrev nobody-relies : List Test
 nobody-relies = (false ⇒ Relied) ∷ []
 
 -- the record e stands at p
-module _ (L : Limits) (t : Registry) (p : PublicationId) (e : Publication) (k : unknown t p ≡ false) (s : at (t .publications) p ≡ e) where
+pub record Stands (t : Registry) (p : PublicationId) (e : Publication) : Type 0 where
+  pub known : unknown t p ≡ false
+  pub there : at (t .publications) p ≡ e
+
+pub stands : (c : RegistryColumns) (size : ℕ) (p : PublicationId) → c .count ≤ size → length (c .publications) ≡ size → p .0 < c .count
+    → Stands (used-registry c) p (at (c .publications) p)
+stands c size p fits long h =
+    record {
+      known = is-known (c .count) size (c .publications) fits long h;
+      there = getD-take (c .count) (c .publications) (p .0) blank-publication h;
+    }
+
+module _ (L : Limits) {t : Registry} {p : PublicationId} {e : Publication} (s : Stands t p e) where
   abbrev relies : List Test
   relies = (leased t p ⇒ Relied) ∷ []
 
@@ -64,12 +77,12 @@ module _ (L : Limits) (t : Registry) (p : PublicationId) (e : Publication) (k : 
     pub adopt-stopped : {r : Refusal} → w ≡ Stop r → Stop r ≡ verdictOf (verdict (adopt-row L t p o g))
     adopt-stopped q =
         let f = stops-before adopt-tests nobody-relies relies refl (told-stop (verdict (adopt-row L (used-registry (alone e [] 0 0)) first o g)) d q) in
-        rw (k, s) (sym (ap verdictOf f))
+        rw (s .known, s .there) (sym (ap verdictOf f))
 
     pub adopt-relies : w ≡ Pass → {v : Verdict} → v ≡ verdictOf (verdict relies) → v ≡ verdictOf (verdict (adopt-row L t p o g))
     adopt-relies q r =
         let f = passes-before adopt-tests nobody-relies relies (told-pass (verdict (adopt-row L (used-registry (alone e [] 0 0)) first o g)) d q) in
-        rw (k, s) (r ∙ sym (ap verdictOf f))
+        rw (s .known, s .there) (r ∙ sym (ap verdictOf f))
 
   module _ {w : Verdict} (d : w ≡ verdictOf (verdict (reclaim-row L (used-registry (alone e [] 0 0)) first))) where
     abbrev reclaim-tests : List Test
@@ -78,12 +91,12 @@ module _ (L : Limits) (t : Registry) (p : PublicationId) (e : Publication) (k : 
     pub reclaim-stopped : {r : Refusal} → w ≡ Stop r → Stop r ≡ verdictOf (verdict (reclaim-row L t p))
     reclaim-stopped q =
         let f = stops-before reclaim-tests nobody-relies relies refl (told-stop (verdict (reclaim-row L (used-registry (alone e [] 0 0)) first)) d q) in
-        rw (k, s) (sym (ap verdictOf f))
+        rw (s .known, s .there) (sym (ap verdictOf f))
 
     pub reclaim-relies : w ≡ Pass → {v : Verdict} → v ≡ verdictOf (verdict relies) → v ≡ verdictOf (verdict (reclaim-row L t p))
     reclaim-relies q r =
         let f = passes-before reclaim-tests nobody-relies relies (told-pass (verdict (reclaim-row L (used-registry (alone e [] 0 0)) first)) d q) in
-        rw (k, s) (r ∙ sym (ap verdictOf f))
+        rw (s .known, s .there) (r ∙ sym (ap verdictOf f))
 
 -- a slot that is held is a conflict as well
 module _ (L : Limits) (t : Registry) (q : Port) (s : ℕ) {w : Verdict} (d : w ≡ verdictOf (verdict (publish-row L t q))) where

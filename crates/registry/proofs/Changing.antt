@@ -2,11 +2,10 @@
 -- Assumes nothing.
 use Prim.Native.Nat.{ℕ, _<_}
 use mathlib.Core.Path.{_≡_, refl, sym, ap, _∙_}
-use mathlib.Core.List.{List, [], _∷_}
-use lib.ListN.{take, set}
+use lib.ListN.{take, drop, set}
 use Rattle.rules.specs.Limits.{Limits}
 use Rattle.rules.specs.Answers as rows
-use Rattle.rules.specs.Answers.{Test, verdict, carry}
+use Rattle.rules.specs.Answers.{verdict, carry}
 use Rattle.rules.specs.Table.{Registry, at}
 use Rattle.rules.specs.Changes.{adopted, hidden, reclaimed}
 use Rattle.rules.specs.Columns.{RegistryColumns, used-registry}
@@ -29,10 +28,6 @@ use Rattle.columns.proofs.Passes.{known-below}
 use Rattle.registry.proofs.Steps.{passes, stopped-by, carried}
 use Rattle.columns.proofs.Effects.{with-publications, filled-changed}
 
-abbrev later : List Test → List Test
-later [] = []
-later (b ∷ ts) = ts
-
 module _ {L : Limits} {c : RegistryColumns} (h : Registry-columns-sound L c) (p : PublicationId) where
   module _ (o : Owner) (g : ℕ) {w : Verdict} (e : w ≡ verdictOf (verdict (adopt-row L (used-registry c) p o g))) where
     pub adopt-refused : {r : Refusal} → w ≡ Stop r
@@ -40,7 +35,7 @@ module _ {L : Limits} {c : RegistryColumns} (h : Registry-columns-sound L c) (p 
     adopt-refused t = sym (ap changedOf (stopped-by L c (adopt p o g) e h t))
 
     pub adopt-below : w ≡ Pass → p .0 < c .count
-    adopt-below t = known-below h p (later (adopt-row L (used-registry c) p o g)) e t
+    adopt-below t = known-below h p (drop 1 (adopt-row L (used-registry c) p o g)) e t
 
     pub adopt-done : w ≡ Pass
         → record { answer = plain.Done; registry = registryOf (with-publications c (set (c .publications) (p .0) (adopted (at (c .publications) p))) (c .count)) }
@@ -56,7 +51,7 @@ module _ {L : Limits} {c : RegistryColumns} (h : Registry-columns-sound L c) (p 
     revoke-refused t = sym (ap changedOf (stopped-by L c (revoke p) e h t))
 
     pub revoke-below : w ≡ Pass → p .0 < c .count
-    revoke-below t = known-below h p (later (revoke-row L (used-registry c) p)) e t
+    revoke-below t = known-below h p (drop 1 (revoke-row L (used-registry c) p)) e t
 
     pub revoke-done : w ≡ Pass
         → record { answer = plain.Done; registry = registryOf (with-publications c (set (c .publications) (p .0) (hidden (at (c .publications) p))) (c .count)) }
@@ -72,7 +67,7 @@ module _ {L : Limits} {c : RegistryColumns} (h : Registry-columns-sound L c) (p 
     reclaim-refused t = sym (ap reclaimedOf (stopped-by L c (reclaim p) e h t))
 
     pub reclaim-below : w ≡ Pass → p .0 < c .count
-    reclaim-below t = known-below h p (later (reclaim-row L (used-registry c) p)) e t
+    reclaim-below t = known-below h p (drop 1 (reclaim-row L (used-registry c) p)) e t
 
     pub reclaim-done : w ≡ Pass
         → record {

@@ -7,14 +7,14 @@ use mathlib.Core.List.{List, [], _∷_}
 use native.Mathlib.Numerals.{add-one}
 use borrow.Author.Tests.{leb-false, le-leb, lt-leb}
 use lib.Dec.{leb}
-use lib.ListN.{take, set, getD}
+use lib.ListN.{take, drop, set, getD}
 use Rattle.lists.specs.Column.{padded}
 use Rattle.rules.specs.Limits.{Limits}
 use Rattle.rules.specs.Answers.{Test, _⇒_, stop, verdict}
 use Rattle.rules.specs.Table.{at}
 use Rattle.rules.specs.Conditions.{owned-by}
-use Rattle.rules.specs.Changes.{adopted, hidden, reclaimed, change}
-use Rattle.rules.specs.Columns.{RegistryColumns, StoreColumns, used-registry, used, filled-registry}
+use Rattle.rules.specs.Changes.{adopted, hidden, reclaimed, change, with-registry}
+use Rattle.rules.specs.Columns.{RegistryColumns, StoreColumns, used-registry, used, filled-registry, filled}
 use Rattle.rules.specs.Sound.{Store-columns-sound}
 use Rattle.rules.specs.Rows.{adopt-row, revoke-row, reclaim-row, replace-row, step}
 use Rattle.rules.specs.Calls.{laid-out}
@@ -41,10 +41,6 @@ use Rattle.store.specs.declared.HandleAnswer.the-variants as handle
 use Rattle.store.proofs.Steps.{stopped, carried, passes, stopped-by}
 use Rattle.store.proofs.Effects.{beside-cells, made-of, blank-revisions, filled-beside, filled-payload, filled-revision}
 
-abbrev later : List Test → List Test
-later [] = []
-later (b ∷ ts) = ts
-
 module _ {L : Limits} {c : StoreColumns} (h : Store-columns-sound L c) (p : PublicationId) where
   -- the columns with one record changed
   abbrev changed : (Publication → Publication) → RegistryColumns
@@ -54,21 +50,25 @@ module _ {L : Limits} {c : StoreColumns} (h : Store-columns-sound L c) (p : Publ
   filled-change : (f : Publication → Publication) → p .0 < c .registry .count → filled-registry L (change (used-registry (c .registry)) p f) ≡ changed f
   filled-change f k = filled-changed (registry-columns L c h) p f k
 
+  -- beside the same cells
+  changed-beside : (f : Publication → Publication) → p .0 < c .registry .count
+      → filled L (with-registry (used c) (change (used-registry (c .registry)) p f)) ≡ beside-cells c (changed f)
+  changed-beside f k = filled-beside h (change (used-registry (c .registry)) p f) ∙ ap (beside-cells c) (filled-change f k)
+
   module _ (o : Owner) (g : ℕ) {w : Verdict} (e : w ≡ verdictOf (verdict (adopt-row L (used-registry (c .registry)) p o g))) where
     pub adopt-refused : {r : Refusal} → w ≡ Stop r
         → record { answer = plain.Refused r; store = storeOf c } ≡ changedOf (laid-out L (step L (used c) (Adopt p o g)))
     adopt-refused t = sym (ap changedOf (stopped-by L c (Adopt p o g) e h t))
 
     pub adopt-below : w ≡ Pass → p .0 < c .registry .count
-    adopt-below t = known-below (registry-columns L c h) p (later (adopt-row L (used-registry (c .registry)) p o g)) e t
+    adopt-below t = known-below (registry-columns L c h) p (drop 1 (adopt-row L (used-registry (c .registry)) p o g)) e t
 
     pub adopt-done : w ≡ Pass
         → record { answer = plain.Done; store = storeOf (beside-cells c (changed adopted)) } ≡ changedOf (laid-out L (step L (used c) (Adopt p o g)))
     adopt-done t =
         sym
         (ap changedOf (carried L c (Adopt p o g) (passes L c (Adopt p o g) e t))
-        ∙ ap (λ (x : StoreColumns). record { answer = plain.Done; store = storeOf x })
-        (filled-beside h (change (used-registry (c .registry)) p adopted) ∙ ap (beside-cells c) (filled-change adopted (adopt-below t))))
+        ∙ ap (λ (x : StoreColumns). record { answer = plain.Done; store = storeOf x }) (changed-beside adopted (adopt-below t)))
 
   module _ {w : Verdict} (e : w ≡ verdictOf (verdict (revoke-row L (used-registry (c .registry)) p))) where
     pub revoke-refused : {r : Refusal} → w ≡ Stop r
@@ -83,8 +83,7 @@ module _ {L : Limits} {c : StoreColumns} (h : Store-columns-sound L c) (p : Publ
     revoke-done t =
         sym
         (ap changedOf (carried L c (Revoke p) (passes L c (Revoke p) e t))
-        ∙ ap (λ (x : StoreColumns). record { answer = plain.Done; store = storeOf x })
-        (filled-beside h (change (used-registry (c .registry)) p hidden) ∙ ap (beside-cells c) (filled-change hidden (revoke-below t))))
+        ∙ ap (λ (x : StoreColumns). record { answer = plain.Done; store = storeOf x }) (changed-beside hidden (revoke-below t)))
 
   module _ {w : Verdict} (e : w ≡ verdictOf (verdict (reclaim-row L (used-registry (c .registry)) p))) where
     pub reclaim-refused : {r : Refusal} → w ≡ Stop r
@@ -92,7 +91,7 @@ module _ {L : Limits} {c : StoreColumns} (h : Store-columns-sound L c) (p : Publ
     reclaim-refused t = sym (ap reclaimedOf (stopped-by L c (Reclaim p) e h t))
 
     pub reclaim-below : w ≡ Pass → p .0 < c .registry .count
-    reclaim-below t = known-below (registry-columns L c h) p (later (reclaim-row L (used-registry (c .registry)) p)) e t
+    reclaim-below t = known-below (registry-columns L c h) p (drop 1 (reclaim-row L (used-registry (c .registry)) p)) e t
 
     pub reclaim-done : w ≡ Pass
         → record {

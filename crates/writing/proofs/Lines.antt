@@ -1,7 +1,7 @@
 -- Lines that are written: their lengths, their bytes, and that each can be read.
 -- Assumes nothing.
 use Prim.Native.Nat.{ℕ, _+_, _-_, _^_, _≤_, _<_}
-use mathlib.Core.Path.{_≡_, refl, sym, ap, _∙_}
+use mathlib.Core.Path.{_≡_, refl}
 use mathlib.Core.Bool.{true}
 use mathlib.Core.List.{List, [], _∷_, _++_, append-assoc}
 use native.Mathlib.Omega.{arith}
@@ -13,7 +13,7 @@ use Rattle.text.specs.Keys.{command-key, key-text, key-limit}
 use Rattle.text.specs.Lines.{Key-line, line-text}
 use Rattle.writing.specs.Written.{over}
 use Rattle.text.proofs.Digits.{digits-value, digits-most}
-use Rattle.writing.proofs.Written.{over-length, over-snoc, lent-after}
+use Rattle.writing.proofs.Written.{Holds, as-long, piece-room, piece-put, byte-put}
 
 pub line-length : (code n : ℕ) → length (line-text code n) ≡ length (key-text code) + length (digits n) + 1
 unfolding line-text
@@ -37,23 +37,38 @@ line-text-form code n k l h = (
   },
 )
 
--- the key is written, the digits after it into the part that is lent, and then the line feed
-module _ (code n : ℕ) (out xs ys : List ℕ) (a b : ℕ) (room : length (line-text code n) ≤ length out) (p : (a ≡ length (key-text code)) × (xs ≡ over (key-text code) out))
-    (q : (b ≡ length (digits n)) × (ys ≡ over (digits n) (take (length xs - a) (drop a xs)))) where
-  before-feed : putMid a (length xs - a) xs ys ≡ over (key-text code ++ digits n) out
-  before-feed = lent-after (key-text code) (digits n) out xs ys a (p .0) (p .1) (q .1)
+-- the key is written, the digits after it into the part that is lent ..
+module _ (code n : ℕ) (out : List ℕ) (room : length (line-text code n) ≤ length out) {xs : List ℕ} {a : ℕ}
+    (p : (a ≡ length (key-text code)) × (xs ≡ over (key-text code) out)) where
+  key-held : Holds out xs a (key-text code)
+  key-held = record { text = p .1; place = p .0 }
 
-  feed-place : a + b ≡ length (key-text code ++ digits n)
-  feed-place = omega (arith, p .0, q .0, length-append (key-text code) (digits n))
+  pub key-below : a < length xs
+  key-below = omega (arith, line-length code n, as-long key-held (omega (arith, line-length code n)), p .0)
 
-  pub feed-long : length (putMid a (length xs - a) xs ys) ≡ length out
-  feed-long =
-      ap length before-feed ∙ over-length (key-text code ++ digits n) out (omega (arith, length-append (key-text code) (digits n), line-length code n))
+  pub digits-room : length (digits n) ≤ length (take (length xs - a) (drop a xs))
+  digits-room = piece-room key-held (length (digits n)) (omega (arith, line-length code n))
 
-  pub feed-put : (a + b + 1 ≡ length (line-text code n)) × (set (putMid a (length xs - a) xs ys) (a + b) line-feed ≡ over (line-text code n) out)
-  unfolding line-text
-  feed-put = (
-    omega (arith, p .0, q .0, line-length code n),
-    rw (before-feed, feed-place, sym (append-assoc (key-text code) (digits n) (line-feed ∷ [])))
-        (over-snoc (key-text code ++ digits n) out line-feed (omega (arith, length-append (key-text code) (digits n), line-length code n))),
-  )
+  -- .. and then the line feed
+  module _ {ys : List ℕ} {b : ℕ} (q : (b ≡ length (digits n)) × (ys ≡ over (digits n) (take (length xs - a) (drop a xs)))) where
+    digits-held : Holds out (putMid a (length xs - a) xs ys) (a + b) (key-text code ++ digits n)
+    digits-held = piece-put key-held (digits n) q
+
+    before-feed : length (key-text code ++ digits n) + 1 ≡ length (line-text code n)
+    before-feed = omega (arith, length-append (key-text code) (digits n), line-length code n)
+
+    pub feed-below : a + b < length out
+    feed-below = omega (arith, digits-held .place, before-feed)
+
+    pub feed-long : length (putMid a (length xs - a) xs ys) ≡ length out
+    feed-long = as-long digits-held (omega (arith, before-feed))
+
+    pub feed-within : a + b < length (putMid a (length xs - a) xs ys)
+    feed-within = omega (arith, feed-below, feed-long)
+
+    feed-held : Holds out (set (putMid a (length xs - a) xs ys) (a + b) line-feed) (a + b + 1) ((key-text code ++ digits n) ++ line-feed ∷ [])
+    feed-held = byte-put digits-held line-feed (omega (arith, before-feed))
+
+    pub feed-put : (a + b + 1 ≡ length (line-text code n)) × (set (putMid a (length xs - a) xs ys) (a + b) line-feed ≡ over (line-text code n) out)
+    unfolding line-text
+    feed-put = rw (← append-assoc (key-text code) (digits n) (line-feed ∷ [])) (feed-held .place, feed-held .text)

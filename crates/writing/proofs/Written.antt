@@ -75,3 +75,37 @@ pub lent-after : (v w out xs ys : List ℕ) (a : ℕ) → a ≡ length v → xs 
     → putMid a (length xs - a) xs ys ≡ over (v ++ w) out
 lent-after v w out xs ys a e p q =
     lent-from a w xs ys q ∙ ap (over-from a w) p ∙ ap (λ (k : ℕ). over-from k w (over v out)) e ∙ over-after v w out
+
+-- of a writer that lends the part to another: its answer is the place after the text
+pub lent-put : (a : ℕ) (w xs : List ℕ) {ys : List ℕ} {k : ℕ} → (k ≡ length w) × (ys ≡ over w (take (length xs - a) (drop a xs)))
+    → (a + k ≡ a + length w) × (putMid a (length xs - a) xs ys ≡ over-from a w xs)
+lent-put a w xs {ys} p = (ap (λ (k : ℕ). a + k) (p .0), lent-from a w xs ys (p .1))
+
+-- out is changed to xs, in which the text t is written and at is the place after it
+pub record Holds (out xs : List ℕ) (at : ℕ) (t : List ℕ) : Type 0 where
+  pub text : xs ≡ over t out
+  pub place : at ≡ length t
+
+module _ {out xs : List ℕ} {at : ℕ} {t : List ℕ} (h : Holds out xs at t) where
+  pub as-long : length t ≤ length out → length xs ≡ length out
+  as-long l = ap length (h .text) ∙ over-length t out l
+
+  -- the part from there on: its room, and a text written into it
+  pub piece-room : (k : ℕ) → length t + k ≤ length out → k ≤ length (take (length xs - at) (drop at xs))
+  piece-room k l = omega (arith, part-length at xs, as-long (omega arith), h .place)
+
+  pub piece-put : (w : List ℕ) {ys : List ℕ} {k : ℕ} → (k ≡ length w) × (ys ≡ over w (take (length xs - at) (drop at xs)))
+      → Holds out (putMid at (length xs - at) xs ys) (at + k) (t ++ w)
+  piece-put w {ys} p =
+      record {
+        text = lent-after t w out xs ys at (h .place) (h .text) (p .1);
+        place = omega (arith, p .0, h .place, length-append t w);
+      }
+
+  -- and one byte
+  pub byte-put : (x : ℕ) → length t < length out → Holds out (set xs at x) (at + 1) (t ++ x ∷ [])
+  byte-put x l =
+      record {
+        text = rw (h .text, h .place) (over-snoc t out x l);
+        place = omega (arith, h .place, length-append t (x ∷ []));
+      }

@@ -1,11 +1,9 @@
 -- `put_response_at` meets its contract: the answer in the part that is lent.
 -- Assumes nothing.
-use Prim.Native.Nat.{ℕ, _+_}
-use mathlib.Core.Path.{ap}
 use native.Mathlib.Omega.{arith}
 use denote.Ref.{now}
 use borrow.Author.Needs.{needs}
-use Rattle.writing.proofs.Written.{lent-from}
+use Rattle.writing.proofs.Written.{lent-put}
 use Rattle.blocks.specs.Answers.{answer-text}
 use Rattle.blocks.proofs.Answers.{answer-fits}
 use Rattle.blocks.proofs.inner.put_response_at.Statement.{statement}
@@ -25,5 +23,4 @@ put-response-at-spec =
     (λ c. search needs)
     (λ c.
     let a = c .before .before .before .before .before .args in
-    let m = c .before .before .put-response in
-    (ap (λ (k : ℕ). a .at + k) (m .ensures .0), lent-from (a .at) (answer-text (a .r)) (now (a .out)) (m .last .0) (m .ensures .1))))
+    lent-put (a .at) (answer-text (a .r)) (now (a .out)) (c .before .before .put-response .ensures)))

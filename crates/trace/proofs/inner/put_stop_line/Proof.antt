@@ -1,15 +1,26 @@
 -- `put_stop_line` meets its contract: stop=, the number, a blank, the name and the line feed, one after the other.
 -- Assumes nothing.
-use Prim.Native.Nat.{_+_}
 use native.Mathlib.Omega.{arith}
 use denote.Ref.{now}
 use borrow.Author.Needs.{needs}
-use Rattle.text.proofs.Digits.{digits-most}
-use Rattle.writing.proofs.Names.{name-most}
-use Rattle.writing.proofs.Written.{part-length}
-use Rattle.trace.proofs.StopLine.{x₃, number-long, blank-long, name-long, line-put, line-long}
+use Rattle.trace.proofs.StopLine.{number-room, blank-place, blank-below, name-start, name-room, feed-place, feed-below, line-put, line-long}
 use Rattle.trace.proofs.inner.put_stop_line.Statement.{statement}
 use Rattle.trace.proofs.inner.put_stop_line.Tie as tie
+
+blank-fits : tie.Need-add-d
+blank-fits c =
+    let s = c .before .before .before .before .before .before .before .before .before .before in
+    omega (arith, blank-place (s .args .n) (now (s .args .out)) (s .pre) (c .before .before .before .before .before .before .put .ensures) (c .before .before .put-number .ensures))
+
+name-from : tie.Need-part-put-name-start
+name-from c =
+    let s = c .before .before .before .before .before .before .before .before .before .before in
+    name-start (s .args .n) (now (s .args .out)) (s .pre) (c .before .before .before .before .before .before .put .ensures) (c .before .before .put-number .ensures)
+
+feed-fits : tie.Need-add-result
+feed-fits c =
+    let s = c .before .before .before .before .before .before .before .before .before .before .before .before .before .before in
+    omega (arith, feed-place (s .args .n) (now (s .args .out)) (s .pre) (c .before .before .before .before .before .before .before .before .before .before .put .ensures) (c .before .before .before .before .before .before .put-number .ensures) (c .before .before .put-name .ensures))
 
 pub put-stop-line-spec : {M : Type 1} → statement M
 put-stop-line-spec =
@@ -22,57 +33,26 @@ put-stop-line-spec =
     (λ c. search needs)
     (λ c κs.
     let s = c .before .before .before .before .before .before .before in
-    let m = c .before .before .before .put in
-    omega (arith, part-length (m .result) (m .last .0), digits-most (s .args .n), s .pre, m .kept .0, m .ensures .0))
+    number-room (s .args .n) (now (s .args .out)) (s .pre) (c .before .before .before .put .ensures))
+    (λ c. let k = blank-fits c in omega arith)
     (λ c.
     let s = c .before .before .before .before .before .before .before .before .before .before in
-    omega (arith, digits-most (s .args .n), c .before .before .before .before .before .before .put .ensures .0, c .before .before .put-number .ensures .0))
-    (λ c.
-    let s = c .before .before .before .before .before .before .before .before .before .before in
-    let m = c .before .before .before .before .before .before .put in
-    let d = c .before .before .put-number in
-    omega (arith, number-long (s .args .n) (now (s .args .out)) (s .pre) (m .last .0) (d .last .0) (m .result) (d .result) (m .ensures) (d .ensures), digits-most (s .args .n), s .pre, m .ensures .0, d .ensures .0))
-    (λ c.
-    let s = c .before .before .before .before .before .before .before .before .before .before in
-    omega (arith, digits-most (s .args .n), c .before .before .before .before .before .before .put .ensures .0, c .before .before .put-number .ensures .0))
-    (λ c.
-    let s = c .before .before .before .before .before .before .before .before .before .before in
-    let m = c .before .before .before .before .before .before .put in
-    let d = c .before .before .put-number in
-    omega (arith, blank-long (s .args .n) (now (s .args .out)) (s .pre) (m .last .0) (d .last .0) (m .result) (d .result) (m .ensures) (d .ensures), digits-most (s .args .n), s .pre, m .ensures .0, d .ensures .0))
-    (λ c.
-    let s = c .before .before .before .before .before .before .before .before .before .before in
-    let m = c .before .before .before .before .before .before .put in
-    let d = c .before .before .put-number in
-    omega (arith, blank-long (s .args .n) (now (s .args .out)) (s .pre) (m .last .0) (d .last .0) (m .result) (d .result) (m .ensures) (d .ensures), digits-most (s .args .n), s .pre, m .ensures .0, d .ensures .0))
+    blank-below (s .args .n) (now (s .args .out)) (s .pre) (c .before .before .before .before .before .before .put .ensures) (c .before .before .put-number .ensures))
+    blank-fits
+    (λ c. let k = name-from c in omega arith)
+    name-from
     (λ c. search needs)
     (λ c κs.
     let s = c .before .before .before .before .before .before .before .before .before .before .before in
-    let m = c .before .before .before .before .before .before .before .put in
-    let d = c .before .before .before .put-number in
-    let l = blank-long (s .args .n) (now (s .args .out)) (s .pre) (m .last .0) (d .last .0) (m .result) (d .result) (m .ensures) (d .ensures) in
-    omega (arith, l, part-length (m .result + d .result + 1) (x₃ (s .args .n) (now (s .args .out)) (s .pre) (m .last .0) (d .last .0) (m .result) (d .result) (m .ensures) (d .ensures)), digits-most (s .args .n), s .pre, m .ensures .0, d .ensures .0))
+    name-room (s .args .n) (now (s .args .out)) (s .pre) (c .before .before .before .before .before .before .before .put .ensures) (c .before .before .before .put-number .ensures))
+    (λ c. let k = feed-fits c in omega arith)
     (λ c.
     let s = c .before .before .before .before .before .before .before .before .before .before .before .before .before .before in
-    omega (arith, digits-most (s .args .n), name-most (s .args .n), c .before .before .before .before .before .before .before .before .before .before .put .ensures .0, c .before .before .before .before .before .before .put-number .ensures .0, c .before .before .put-name .ensures .0))
+    feed-below (s .args .n) (now (s .args .out)) (s .pre) (c .before .before .before .before .before .before .before .before .before .before .put .ensures) (c .before .before .before .before .before .before .put-number .ensures) (c .before .before .put-name .ensures))
+    feed-fits
     (λ c.
     let s = c .before .before .before .before .before .before .before .before .before .before .before .before .before .before in
-    let m = c .before .before .before .before .before .before .before .before .before .before .put in
-    let d = c .before .before .before .before .before .before .put-number in
-    let k = c .before .before .put-name in
-    omega (arith, name-long (s .args .n) (now (s .args .out)) (s .pre) (m .last .0) (d .last .0) (m .result) (d .result) (m .ensures) (d .ensures) (k .last .0) (k .result) (k .ensures), digits-most (s .args .n), name-most (s .args .n), s .pre, m .ensures .0, d .ensures .0, k .ensures .0))
+    line-long (s .args .n) (now (s .args .out)) (s .pre) (c .before .before .before .before .before .before .before .before .before .before .put .ensures) (c .before .before .before .before .before .before .put-number .ensures) (c .before .before .put-name .ensures))
     (λ c.
     let s = c .before .before .before .before .before .before .before .before .before .before .before .before .before .before in
-    omega (arith, digits-most (s .args .n), name-most (s .args .n), c .before .before .before .before .before .before .before .before .before .before .put .ensures .0, c .before .before .before .before .before .before .put-number .ensures .0, c .before .before .put-name .ensures .0))
-    (λ c.
-    let s = c .before .before .before .before .before .before .before .before .before .before .before .before .before .before in
-    let m = c .before .before .before .before .before .before .before .before .before .before .put in
-    let d = c .before .before .before .before .before .before .put-number in
-    let k = c .before .before .put-name in
-    line-long (s .args .n) (now (s .args .out)) (s .pre) (m .last .0) (d .last .0) (m .result) (d .result) (m .ensures) (d .ensures) (k .last .0) (k .result) (k .ensures))
-    (λ c.
-    let s = c .before .before .before .before .before .before .before .before .before .before .before .before .before .before in
-    let m = c .before .before .before .before .before .before .before .before .before .before .put in
-    let d = c .before .before .before .before .before .before .put-number in
-    let k = c .before .before .put-name in
-    line-put (s .args .n) (now (s .args .out)) (s .pre) (m .last .0) (d .last .0) (m .result) (d .result) (m .ensures) (d .ensures) (k .last .0) (k .result) (k .ensures)))
+    line-put (s .args .n) (now (s .args .out)) (s .pre) (c .before .before .before .before .before .before .before .before .before .before .put .ensures) (c .before .before .before .before .before .before .put-number .ensures) (c .before .before .put-name .ensures)))

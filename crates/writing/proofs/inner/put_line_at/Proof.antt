@@ -1,11 +1,9 @@
 -- `put_line_at` meets its contract: the line in the part that is lent.
 -- Assumes nothing.
-use Prim.Native.Nat.{ℕ, _+_}
-use mathlib.Core.Path.{ap}
 use denote.Ref.{now}
 use borrow.Author.Needs.{needs}
 use Rattle.text.specs.Lines.{line-text}
-use Rattle.writing.proofs.Written.{lent-from}
+use Rattle.writing.proofs.Written.{lent-put}
 use Rattle.writing.proofs.inner.put_line_at.Statement.{statement}
 use Rattle.writing.proofs.inner.put_line_at.Tie as tie
 
@@ -21,5 +19,4 @@ put-line-at-spec =
     (λ c. search needs)
     (λ c.
     let a = c .before .before .before .before .before .args in
-    let m = c .before .before .put-line in
-    (ap (λ (k : ℕ). a .at + k) (m .ensures .0), lent-from (a .at) (line-text (a .code) (a .n)) (now (a .out)) (m .last .0) (m .ensures .1))))
+    lent-put (a .at) (line-text (a .code) (a .n)) (now (a .out)) (c .before .before .put-line .ensures)))

@@ -2,12 +2,10 @@
 -- Assumes nothing.
 use native.Mathlib.Omega.{arith}
 use borrow.Author.Needs.{needs}
-use lib.Seq.{getD-take}
 use Rattle.lists.proofs.Scan.{length-of-map}
 use Rattle.rules.specs.Limits.{box}
-use Rattle.rules.specs.Columns.{used-registry}
 use Rattle.columns.specs.Columns.{columnsOf}
-use Rattle.columns.proofs.Decisions.{is-unknown, is-known, reclaim-stopped, reclaim-relies}
+use Rattle.columns.proofs.Decisions.{is-unknown, stands, reclaim-stopped, reclaim-relies}
 use Rattle.columns.proofs.inner.rows.reclaim_verdict.Statement.{statement}
 use Rattle.columns.proofs.inner.rows.reclaim_verdict.Tie as tie
 
@@ -23,8 +21,8 @@ reclaim-verdict-spec =
     (λ c. search needs)
     (λ c κs. c .before .before .before .before .before .pre .1)
     (λ c.
-    let a = c .before .before .before .before .before .before .args in
-    reclaim-stopped box (used-registry (columnsOf (a .t1) (a .count) (a .leases) (a .active) 0)) (a .id) _ (is-known (a .count) 96 (a .t1) (c .before .before .before .before .before .before .pre .0) (search (needs, length-of-map)) (c .before .before .before .before .before .if1 .left)) (getD-take (a .count) (a .t1) (a .id .0) _ (c .before .before .before .before .before .if1 .left)) (c .before .before .before .reclaim-verdict .ensures) (c .before .r .given .1))
+    let a = c .before .before .before .before .before .before in
+    reclaim-stopped box (stands (columnsOf (a .args .t1) (a .args .count) (a .args .leases) (a .args .active) 0) 96 (a .args .id) (a .pre .0) (search (needs, length-of-map)) (c .before .before .before .before .before .if1 .left)) (c .before .before .before .reclaim-verdict .ensures) (c .before .r .given .1))
     (λ c.
-    let a = c .before .before .before .before .before .before .args in
-    reclaim-relies box (used-registry (columnsOf (a .t1) (a .count) (a .leases) (a .active) 0)) (a .id) _ (is-known (a .count) 96 (a .t1) (c .before .before .before .before .before .before .pre .0) (search (needs, length-of-map)) (c .before .before .before .before .before .if1 .left)) (getD-take (a .count) (a .t1) (a .id .0) _ (c .before .before .before .before .before .if1 .left)) (c .before .before .before .reclaim-verdict .ensures) (c .before .enum-told .given .1) (c .reliance-verdict .ensures)))
+    let a = c .before .before .before .before .before .before in
+    reclaim-relies box (stands (columnsOf (a .args .t1) (a .args .count) (a .args .leases) (a .args .active) 0) 96 (a .args .id) (a .pre .0) (search (needs, length-of-map)) (c .before .before .before .before .before .if1 .left)) (c .before .before .before .reclaim-verdict .ensures) (c .before .enum-told .given .1) (c .reliance-verdict .ensures)))
