@@ -9,7 +9,6 @@ ghost use mathlib.Core.List.{[], _∷_};
 ghost use Prim.Native.Nat.{_+_, _≤_};
 ghost use lib.ListN.{length};
 ghost use Rattle.text.specs.Keys.{answer};
-ghost use Rattle.text.specs.Lines.{line-text};
 ghost use Rattle.writing.specs.Written.{over, over-from};
 ghost use Rattle.blocks.specs.Answers.{_is_, lines-text, answer-text};
 
