@@ -1,9 +1,8 @@
 // What is told of a command and of its response: keys, by the codes of the crate text, and their values.
 use rules::Command;
-use rules::Refusal;
 use rules::Response;
+use writing::inner::number_of;
 ghost use mathlib.Core.Path.{_≡_};
-ghost use Rattle.rules.specs.Refusals.{refusal-number};
 ghost use Rattle.rules.specs.Responses.{response-number};
 ghost use Rattle.blocks.specs.Blocks.{row-of, values-of};
 ghost use Rattle.blocks.specs.Answers.{value-lines};
@@ -88,23 +87,6 @@ pub fn asked(command: Command) -> Request
             row: 10,
             values: [0, 0, 0, 0, 0],
         },
-    }
-}
-
-fn number_of(r: Refusal) -> u64
-    ensures { λ n. ⌜ n ≡ refusal-number r ⌝ }
-{
-    match r {
-        Refusal::Unknown => 1,
-        Refusal::Revoked => 2,
-        Refusal::Conflict => 3,
-        Refusal::Relied => 4,
-        Refusal::Visible => 5,
-        Refusal::Released => 6,
-        Refusal::Capacity => 7,
-        Refusal::InvalidState => 8,
-        Refusal::BadTable => 9,
-        Refusal::Absent => 10,
     }
 }
 

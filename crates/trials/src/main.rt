@@ -3,11 +3,11 @@
 //
 // What it must print stands in the file stdout: the findings that follow from document 01 and from each broker's fault.
 use broken::Fault;
-use rules::Refusal;
 use rules::Response;
 use store::PublicationStore;
 use traces::Asked;
 use traces::Told;
+use writing::inner::number_of;
 
 mod checker;
 mod report;
@@ -25,21 +25,6 @@ pub struct Trial {
     pub asked: Asked,
     pub told: Told,
     pub due: Told,
-}
-
-fn number_of(r: Refusal) -> u64 {
-    match r {
-        Refusal::Unknown => 1,
-        Refusal::Revoked => 2,
-        Refusal::Conflict => 3,
-        Refusal::Relied => 4,
-        Refusal::Visible => 5,
-        Refusal::Released => 6,
-        Refusal::Capacity => 7,
-        Refusal::InvalidState => 8,
-        Refusal::BadTable => 9,
-        Refusal::Absent => 10,
-    }
 }
 
 fn told(form: u64, number: u64, x: u64, y: u64, z: u64) -> Told {

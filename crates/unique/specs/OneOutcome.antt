@@ -6,7 +6,6 @@ use mathlib.Core.List.{List}
 use base.Logic.{ent, sep}
 use contract.Lifetimes.{Lfts}
 use contract.Monad.{fact}
-use denote.RattleType.{RattleType}
 use denote.Triple.Clauses.{Ended, Clauses, Lasts, AtExit, atExit}
 use denote.Triple.Entry.{Args, Res}
 use borrow.Fn.Kinds.{PK, RK, Out, Dens, resT, endedOf}
