@@ -20,7 +20,7 @@ use Rattle.writing.specs.Written.{over, over-from}
 use Rattle.writing.proofs.Written.{over-length, over-after}
 use Rattle.trace.specs.Run.{run-sound, laid}
 use Rattle.trace.specs.Report.{Report, longest, report-room, line-room, stop-line, empty-run, told, report-of, report}
-use Rattle.trace.specs.Embedding.{stoppedOf, reportedOf, Counts}
+use Rattle.trace.specs.Embedding.{stoppedOf, reportedOf, Tells, Counts}
 use Rattle.trace.specs.declared.Stopped.{Stopped}
 use Rattle.trace.specs.declared.Reported.{Reported}
 use Rattle.trace.proofs.Turns.{reaches}
@@ -60,23 +60,21 @@ report-fits L room trace =
 -- the same of what the code has: out and a trace came in; what is answered, and what is in the output
 
 module _ (trace out : List ℕ) where
-  abbrev Tells : Reported → List ℕ → Type 0
-  Tells r xs =
-      ((r ≡ reportedOf (report box (length out) trace)) × (xs ≡ over (report box (length out) trace .text) out))
-      × Counts (r .written) xs
+  abbrev Met : Reported → List ℕ → Type 0
+  Met r xs = Tells (report box (length out) trace) r out xs × Counts (r .written) xs
 
-  tells : (w : Report) → report box (length out) trace ≡ w → (r : Reported) (xs : List ℕ) → r ≡ reportedOf w → xs ≡ over (w .text) out → Tells r xs
-  tells w e r xs p q =
+  met : (w : Report) → report box (length out) trace ≡ w → (r : Reported) (xs : List ℕ) → r ≡ reportedOf w → xs ≡ over (w .text) out → Met r xs
+  met w e r xs p q =
       let f : length (w .text) ≤ length out = subst (λ (v : Report). length (v .text) ≤ length out) e (report-fits box (length out) trace) in
       (rw e (p, q), rw p (over-counts (w .text) out xs q f))
 
-  pub refuses : length out < report-room + line-room → Tells (record { stop = 12; written = 0 }) out
-  refuses h = tells _ (report-refused box (length out) trace h) _ _ refl refl
+  pub refuses : length out < report-room + line-room → Met (record { stop = 12; written = 0 }) out
+  refuses h = met _ (report-refused box (length out) trace h) _ _ refl refl
 
   module _ (h : report-room + line-room ≤ length out) where
     pub tells-long : longest < length trace → (n : ℕ) (xs : List ℕ) → (n ≡ length (stop-line 7)) × (xs ≡ over (stop-line 7) out)
-        → Tells (record { stop = 7; written = n }) xs
-    tells-long k n xs p = tells _ (report-long box (length out) trace h k) _ _ (ap (λ (i : ℕ). record { stop = 7; written = i }) (p .0)) (p .1)
+        → Met (record { stop = 7; written = n }) xs
+    tells-long k n xs p = met _ (report-long box (length out) trace h k) _ _ (ap (λ (i : ℕ). record { stop = 7; written = i }) (p .0)) (p .1)
 
     module _ (store : PublicationStore) (e : store ≡ storeOf (filled box (empty-store Unset))) where
       pub empty-sound-columns : Store-columns-sound box (columnsOf store)
@@ -97,9 +95,9 @@ module _ (trace out : List ℕ) where
             omega (arith, ap (λ (q : Stopped). q .written) (ran .0), h)
 
         pub tells-run : length trace ≤ longest → (n : ℕ) (ys : List ℕ) → (n ≡ r .written + length (stop-line (r .stop))) × (ys ≡ over-from (r .written) (stop-line (r .stop)) xs)
-            → Tells (record { stop = r .stop; written = n }) ys
+            → Met (record { stop = r .stop; written = n }) ys
         tells-run k n ys q =
             let w = empty-run box trace in
             let m : n ≡ length (w .done .text ++ stop-line (w .stop)) = q .0 ∙ rw (ran .0) (sym (length-append (w .done .text) (stop-line (w .stop)))) in
             let o : ys ≡ over (w .done .text ++ stop-line (w .stop)) out = q .1 ∙ rw (ran .0, ran .1) (over-after (w .done .text) (stop-line (w .stop)) out) in
-            tells _ (report-ran box (length out) trace h k) _ _ (rw (ran .0, m)) o
+            met _ (report-ran box (length out) trace h k) _ _ (rw (ran .0, m)) o

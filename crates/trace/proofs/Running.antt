@@ -12,7 +12,7 @@ use denote.Enum.Declared.{tagOf}
 use Rattle.rules.specs.Limits.{box}
 use Rattle.rules.specs.Refusals.{bad-line, no-room}
 use Rattle.rules.specs.Table.{Store}
-use Rattle.rules.specs.Columns.{StoreColumns, used, filled}
+use Rattle.rules.specs.Columns.{used, filled}
 use Rattle.rules.specs.Sound.{Store-sound, Store-columns-sound}
 use Rattle.rules.specs.SoundTest.{store-test}
 use Rattle.rules.specs.Rows.{step}
@@ -35,15 +35,11 @@ use Rattle.writing.specs.Written.{over, over-from}
 use Rattle.writing.proofs.Written.{over-after, over-length}
 use Rattle.trace.specs.Run.{Progress, Ran, answer-room, stopped, run-from, run-sound, laid, run}
 use Rattle.trace.specs.Stops.{No-block}
-use Rattle.trace.specs.Embedding.{stoppedOf, Counts}
+use Rattle.trace.specs.Embedding.{Comes-to, Counts}
 use Rattle.trace.specs.declared.Stopped.{Stopped}
 use Rattle.trace.proofs.Counting.{over-counts}
 use Rattle.trace.proofs.Stops.{within}
 use Rattle.trace.proofs.Turns.{run-when, run-unless, Ready, ends, fills, breaks, goes-on, none-unfinished, none-wrong}
-
--- what a run answers and leaves in the output
-abbrev Told : Ran StoreColumns → List ℕ → Stopped → List ℕ → Type 0
-Told w out₀ r out = (r ≡ stoppedOf w) × (out ≡ over (w .done .text) out₀)
 
 -- the blocks so far
 abbrev so-far : PublicationStore → ℕ → ℕ → List ℕ → Progress Store
@@ -94,12 +90,12 @@ module _ {trace out₀ : List ℕ} {room : ℕ} {store : PublicationStore} {out 
 
   -- a stop answers what the loop has
   abbrev Stops-with : ℕ → Type 0
-  Stops-with n = Told (laid box whole) out₀ (record { store = left; stop = n; blocks = blocks; read = i; written = at }) out
+  Stops-with n = Comes-to (laid box whole) (record { store = left; stop = n; blocks = blocks; read = i; written = at }) out₀ out
 
   stops : (n : ℕ) → whole ≡ stopped n g → Stops-with n
   stops n e =
       let l : left ≡ storeOf (filled box (used (columnsOf left))) = ap storeOf (sym (k .sound .s6)) in
-      subst (λ (r : Ran Store). Told (laid box r) out₀ (record { store = left; stop = n; blocks = blocks; read = i; written = at }) out) (sym e)
+      subst (λ (r : Ran Store). Comes-to (laid box r) (record { store = left; stop = n; blocks = blocks; read = i; written = at }) out₀ out) (sym e)
       (rw (← l, k .place), k .here)
 
   pub run-ends : length trace ≤ i → Stops-with 0
@@ -161,17 +157,17 @@ module _ {trace out₀ : List ℕ} {room : ℕ} {store : PublicationStore} {out 
 -- the test of the store goes first
 
 module _ (room : ℕ) (trace out₀ : List ℕ) (store : PublicationStore) {b : Bool} (e : b ≡ store-test box (columnsOf store)) where
-  abbrev Tells : Stopped → List ℕ → Type 0
-  Tells r out = Told (run box room trace (columnsOf store)) out₀ r out × Counts (r .written) out
+  abbrev Met : Stopped → List ℕ → Type 0
+  Met r out = Comes-to (run box room trace (columnsOf store)) r out₀ out × Counts (r .written) out
 
-  tells : room ≤ length out₀ → (r : Stopped) (out : List ℕ) → Told (run box room trace (columnsOf store)) out₀ r out → Tells r out
-  tells h r out t =
+  met : room ≤ length out₀ → (r : Stopped) (out : List ℕ) → Comes-to (run box room trace (columnsOf store)) r out₀ out → Met r out
+  met h r out t =
       let f = within box room trace (columnsOf store) .written in
       (t, rw (t .0) (over-counts (run box room trace (columnsOf store) .done .text) out₀ out (t .1) (omega arith)))
 
-  pub told-when : room ≤ length out₀ → b ≡ true → (r : Stopped) (out : List ℕ) → Told (laid box (run-sound box room trace (used (columnsOf store)))) out₀ r out
-      → Tells r out
-  told-when h q r out t = tells h r out (rw (run-when box room trace (columnsOf store) e q) t)
+  pub told-when : room ≤ length out₀ → b ≡ true → (r : Stopped) (out : List ℕ) → Comes-to (laid box (run-sound box room trace (used (columnsOf store)))) r out₀ out
+      → Met r out
+  told-when h q r out t = met h r out (rw (run-when box room trace (columnsOf store) e q) t)
 
-  pub told-unless : room ≤ length out₀ → b ≡ false → Tells (record { store = store; stop = 9; blocks = 0; read = 0; written = 0 }) out₀
-  told-unless h q = tells h (record { store = store; stop = 9; blocks = 0; read = 0; written = 0 }) out₀ (rw (run-unless box room trace (columnsOf store) e q) (refl, refl))
+  pub told-unless : room ≤ length out₀ → b ≡ false → Met (record { store = store; stop = 9; blocks = 0; read = 0; written = 0 }) out₀
+  told-unless h q = met h (record { store = store; stop = 9; blocks = 0; read = 0; written = 0 }) out₀ (rw (run-unless box room trace (columnsOf store) e q) (refl, refl))

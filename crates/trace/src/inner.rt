@@ -17,12 +17,12 @@ ghost use Rattle.store.specs.Columns.{columnsOf};
 ghost use Rattle.writing.specs.Written.{over, over-from};
 ghost use Rattle.trace.specs.Run.{laid, run-sound};
 ghost use Rattle.trace.specs.Report.{line-room, stop-line};
-ghost use Rattle.trace.specs.Embedding.{stoppedOf};
+ghost use Rattle.trace.specs.Embedding.{Comes-to};
 
 // Block after block, with the first `room` bytes of the output for the answers. The store stays sound, so no command tests it again.
 pub fn run(store: PublicationStore, trace: &[u8], out: &mut [u8], room: usize) -> Stopped
     requires { ⌜ Store-columns-sound box (columnsOf store) × (room ≤ length (now out)) ⌝ }
-    ensures { λ r. ⌜ (r ≡ stoppedOf (laid box (run-sound box room (now (trace .entry)) (used (columnsOf store))))) × (now (out .exit) ≡ over (run-sound box room (now (trace .entry)) (used (columnsOf store)) .done .text) (now (out .entry))) ⌝ }
+    ensures { λ r. ⌜ Comes-to (laid box (run-sound box room (now (trace .entry)) (used (columnsOf store)))) r (now (out .entry)) (now (out .exit)) ⌝ }
 {
     let mut left = store;
     let mut blocks: u64 = 0;

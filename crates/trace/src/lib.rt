@@ -5,14 +5,12 @@
 pub mod inner;
 
 use store::PublicationStore;
-ghost use mathlib.Core.Path.{_≡_};
 ghost use lib.ListN.{length};
 ghost use Rattle.rules.specs.Limits.{box};
 ghost use Rattle.store.specs.Columns.{columnsOf};
-ghost use Rattle.writing.specs.Written.{over};
 ghost use Rattle.trace.specs.Run.{run};
 ghost use Rattle.trace.specs.Report.{report};
-ghost use Rattle.trace.specs.Embedding.{stoppedOf, reportedOf, Counts};
+ghost use Rattle.trace.specs.Embedding.{Comes-to, Tells, Counts};
 
 // Where a run stopped: the store after the blocks done, the stop number, how many blocks were done, the bytes read up to the stopped
 // block's start, and the bytes written.
@@ -32,7 +30,7 @@ pub struct Reported {
 
 // Runs a trace on a store. A store that isn't sound stops it with 9 before anything is read.
 pub fn run(store: PublicationStore, trace: &[u8], out: &mut [u8]) -> Stopped
-    ensures { λ r. ⌜ (r ≡ stoppedOf (run box (length (now (out .entry))) (now (trace .entry)) (columnsOf store))) × (now (out .exit) ≡ over (run box (length (now (out .entry))) (now (trace .entry)) (columnsOf store) .done .text) (now (out .entry))) ⌝ }
+    ensures { λ r. ⌜ Comes-to (run box (length (now (out .entry))) (now (trace .entry)) (columnsOf store)) r (now (out .entry)) (now (out .exit)) ⌝ }
     ensures { λ r. ⌜ Counts (r .written) (now (out .exit)) ⌝ }
 {
     if store::inner::is_sound(store) {
@@ -52,7 +50,7 @@ pub fn run(store: PublicationStore, trace: &[u8], out: &mut [u8]) -> Stopped
 // line stop=NUMBER NAME. A trace of more than 65,536 bytes is told as 7 and not run. An output of fewer than 65,600 bytes is left as
 // it is, and answered 12 and nothing written.
 pub fn report(trace: &[u8], out: &mut [u8]) -> Reported
-    ensures { λ r. ⌜ (r ≡ reportedOf (report box (length (now (out .entry))) (now (trace .entry)))) × (now (out .exit) ≡ over (report box (length (now (out .entry))) (now (trace .entry)) .text) (now (out .entry))) ⌝ }
+    ensures { λ r. ⌜ Tells (report box (length (now (out .entry))) (now (trace .entry))) r (now (out .entry)) (now (out .exit)) ⌝ }
     ensures { λ r. ⌜ Counts (r .written) (now (out .exit)) ⌝ }
 {
     if out.len() < 65600 {
