@@ -1,6 +1,6 @@
 //! Every pair of `NAME.trace` and `NAME.answers` in the vectors' folder: the twin
-//! writes the answers, byte for byte. The folder is the environment's VECTORS, or
-//! the repository's own.
+//! writes the answers, byte for byte, and of the pair `falsified`, where there is
+//! one, others. The folder is the environment's VECTORS, or the repository's own.
 
 use std::collections::BTreeSet;
 use std::fs;
@@ -44,6 +44,8 @@ fn each_vector_is_answered_byte_for_byte() {
             program(&trace).report() != answers
         })
         .collect();
-    assert!(differing.is_empty(), "answered otherwise: {differing:?}");
+    // The repository's own folder has one pair whose answers are false on purpose.
+    let falsified: Vec<&String> = traces.iter().filter(|name| *name == "falsified").collect();
+    assert_eq!(differing, falsified, "answered otherwise");
     println!("{} vectors", traces.len());
 }
