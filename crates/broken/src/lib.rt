@@ -2,7 +2,11 @@
 // Nothing of the product depends on this crate.
 //
 // A broken broker is the product's `apply` with one thing spoiled, in the same shape: a store and a command go in, an answer and a store
-// come back. Nothing is proved of what they answer, only that they are safe and end.
+// come back. Of the broken ones nothing is proved but that they are safe and end; that nobody at fault is ours is proved.
+ghost use mathlib.Core.Path.{_≡_};
+ghost use Rattle.store.specs.Columns.{columnsOf};
+ghost use Rattle.store.specs.Answers.{appliedOf};
+ghost use Rattle.broken.specs.declared.Fault.the-variants.{Nobody};
 use rules::Command;
 use rules::Port;
 use rules::Refusal;
@@ -34,8 +38,10 @@ pub enum Fault {
     OtherHandleBack,
 }
 
-// A command, played by the broker with that fault.
-pub fn play(fault: Fault, store: PublicationStore, command: Command) -> Applied {
+// A command, played by the broker with that fault. Where nobody is at fault it is ours.
+pub fn play(fault: Fault, store: PublicationStore, command: Command) -> Applied
+    ensures { λ r. ⌜ (fault ≡ Nobody → r ≡ appliedOf (columnsOf store) command) ⌝ }
+{
     match fault {
         Fault::Nobody => store.apply(command),
         Fault::RefusesEverything => refuses_everything(store, command),

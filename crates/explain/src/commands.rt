@@ -145,7 +145,7 @@ fn tell_block(number: u64, command: Command, response: Response) -> bool {
 }
 
 // The blocks that a trace's run did, so many from its start, with their answers on an empty store. Answers false where a line can't be written.
-pub fn tell_blocks(trace: &[u8], blocks: u64) -> bool {
+pub(crate) fn tell_blocks(trace: &[u8], blocks: u64) -> bool {
     let mut store = PublicationStore::new();
     let mut i: usize = 0;
     let mut number: u64 = 0;

@@ -18,7 +18,7 @@ ghost use Rattle.rules.specs.Conditions.{names};
 
 // The stop's number and name, the blocks done and the bytes read; and a line more where the trace was not read to its end. Answers false
 // where a line can't be written.
-pub fn tell_stop(stop: u64, blocks: u64, read: usize) -> bool {
+pub(crate) fn tell_stop(stop: u64, blocks: u64, read: usize) -> bool {
     let mut line = [b' '; 256];
     let a = put_named(&mut line, 0, b"stopped: ", stop);
     let b = put_counted(&mut line, a, b", ", blocks, b" block");
@@ -102,7 +102,7 @@ fn tell_publications(store: PublicationStore) -> bool
 
 // The retained publications: how many, and a line for each with its identifier, port, handle and active leases. Answers false where a
 // line can't be written.
-pub fn tell_retained(store: PublicationStore) -> bool {
+pub(crate) fn tell_retained(store: PublicationStore) -> bool {
     let CountAnswer::Count(n) = store.retained_count() else {
         return io::write_all(STDOUT_FILENO, b"retained: not known\n");
     };

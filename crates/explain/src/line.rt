@@ -3,7 +3,7 @@
 use libc::STDOUT_FILENO;
 
 // Puts w at a place, and answers the place after it.
-pub fn put(line: &mut [u8; 256], at: usize, w: &[u8]) -> usize {
+pub(crate) fn put(line: &mut [u8; 256], at: usize, w: &[u8]) -> usize {
     let mut end = at;
     let mut i = 0;
     while i < w.len() {
@@ -18,14 +18,14 @@ pub fn put(line: &mut [u8; 256], at: usize, w: &[u8]) -> usize {
 }
 
 // The digits of n, with no leading zeros.
-pub fn put_number(line: &mut [u8; 256], at: usize, n: u64) -> usize {
+pub(crate) fn put_number(line: &mut [u8; 256], at: usize, n: u64) -> usize {
     let mut digits = [0u8; 20];
     let k = io::decimal(n, &mut digits);
     put(line, at, &digits[..k])
 }
 
 // The lead, the number n, a blank and its name.
-pub fn put_named(line: &mut [u8; 256], at: usize, lead: &[u8], n: u64) -> usize {
+pub(crate) fn put_named(line: &mut [u8; 256], at: usize, lead: &[u8], n: u64) -> usize {
     let a = put(line, at, lead);
     let b = put_number(line, a, n);
     let c = put(line, b, b" ");
@@ -35,7 +35,13 @@ pub fn put_named(line: &mut [u8; 256], at: usize, lead: &[u8], n: u64) -> usize 
 }
 
 // The lead, and so many of a thing: its word has an s unless it is one.
-pub fn put_counted(line: &mut [u8; 256], at: usize, lead: &[u8], n: u64, word: &[u8]) -> usize {
+pub(crate) fn put_counted(
+    line: &mut [u8; 256],
+    at: usize,
+    lead: &[u8],
+    n: u64,
+    word: &[u8],
+) -> usize {
     let a = put(line, at, lead);
     let b = put_number(line, a, n);
     let c = put(line, b, word);
@@ -46,7 +52,7 @@ pub fn put_counted(line: &mut [u8; 256], at: usize, lead: &[u8], n: u64, word: &
 }
 
 // Writes the line up to a place, and a line feed. Answers false where it can't be written, or doesn't fit.
-pub fn write(line: [u8; 256], at: usize) -> bool {
+pub(crate) fn write(line: [u8; 256], at: usize) -> bool {
     if 256 <= at {
         return false;
     }

@@ -21,7 +21,7 @@ pub struct Answer {
     pub values: [u64; 5],
 }
 
-pub fn asked(command: Command) -> Request
+pub(crate) fn asked(command: Command) -> Request
     ensures { λ r. ⌜ (r .row ≡ row-of command) × (r .values ≡ values-of command) ⌝ }
 {
     match command {
@@ -91,7 +91,7 @@ pub fn asked(command: Command) -> Request
 }
 
 // Keys: 4 payload, 5 id, 6 lease, 8 revision, 9 count.
-pub fn answered(response: Response) -> Answer
+pub(crate) fn answered(response: Response) -> Answer
     ensures { λ r. ⌜ (r .number ≡ response-number response) × (key-values (r .keys) (r .values) ≡ value-lines response) ⌝ }
 {
     match response {

@@ -53,7 +53,7 @@ pub struct History {
 }
 
 // Before the first command.
-pub fn start() -> History {
+pub(crate) fn start() -> History {
     let page = blank();
     let loan = Loan { of: 0, since: 0 };
     let pages = [page; 96];
@@ -79,7 +79,7 @@ fn blank() -> Page {
     }
 }
 
-pub fn same(s: Told, t: Told) -> bool {
+pub(crate) fn same(s: Told, t: Told) -> bool {
     if s.form != t.form {
         return false;
     }
@@ -315,7 +315,7 @@ fn third(h: History, q: Asked, t: Told) -> Told {
 }
 
 // The answer that a demand asks for. Demand 2: document 01's.
-pub fn due(demand: u64, h: History, q: Asked, t: Told, fixed: Told) -> Told {
+pub(crate) fn due(demand: u64, h: History, q: Asked, t: Told, fixed: Told) -> Told {
     match demand {
         1 => first(q, t, fixed),
         2 => fixed,
@@ -356,7 +356,7 @@ fn freed(mut h: History, lease: u64) -> History {
 }
 
 // The history after one more command; a refused one tells nothing.
-pub fn noted(mut h: History, q: Asked, t: Told) -> History {
+pub(crate) fn noted(mut h: History, q: Asked, t: Told) -> History {
     let op = q.op;
     let id = q.a;
     h.time = std::num::wrapping_add_u64(h.time, 1);

@@ -10,12 +10,12 @@ use crate::traces::RETURNED;
 use crate::traces::Told;
 use libc::STDOUT_FILENO;
 
-pub fn word(at: u64, w: &[u8]) -> u64 {
+pub(crate) fn word(at: u64, w: &[u8]) -> u64 {
     io::write_all(STDOUT_FILENO, w);
     std::num::wrapping_add_u64(at, w.len() as u64)
 }
 
-pub fn number(at: u64, n: u64) -> u64 {
+pub(crate) fn number(at: u64, n: u64) -> u64 {
     let mut text = [0u8; 20];
     let k = io::decimal(n, &mut text);
     word(at, &text[..k])
@@ -105,12 +105,12 @@ fn answer(at: u64, t: Told) -> u64 {
 }
 
 // The line of a demand that is kept.
-pub fn kept(demand: u64) {
+pub(crate) fn kept(demand: u64) {
     word(number(word(0, b"  "), demand), b"     kept\n");
 }
 
 // The line of one that is broken: where, by which command, and what was answered against what was due.
-pub fn broken(demand: u64, trace: u64, place: u64, asked: Asked, told: Told, due: Told) {
+pub(crate) fn broken(demand: u64, trace: u64, place: u64, asked: Asked, told: Told, due: Told) {
     let at = word(number(word(0, b"  "), demand), b"     broken  ");
     let at = pick(
         at,

@@ -265,7 +265,7 @@ const CARRIED: [u64; 11] = [
     NUMBER,
 ];
 
-pub fn form_of(op: u64, number: u64) -> u64 {
+pub(crate) fn form_of(op: u64, number: u64) -> u64 {
     if number == 0 {
         if op < 11 {
             return CARRIED[op as usize];
@@ -296,7 +296,7 @@ fn row_at(row: usize) -> [u64; 11] {
 }
 
 // A row's turn.
-pub fn step_at(row: usize, turn: u64) -> Step {
+pub(crate) fn step_at(row: usize, turn: u64) -> Step {
     let r = row_at(row);
     let op = r[2];
     let mut c = r[5];
@@ -337,7 +337,7 @@ fn port_of(n: u64) -> Port {
 }
 
 // The command that the brokers play.
-pub fn command_of(q: Asked) -> Command {
+pub(crate) fn command_of(q: Asked) -> Command {
     let op = q.op;
     match op {
         PUBLISH => Command::Publish {
