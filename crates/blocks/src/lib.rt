@@ -2,6 +2,8 @@
 // What a block's text is stands in specs/; this crate knows no table, so a command is read here and carried out elsewhere.
 //
 //     block_at(b"op=revoke\nid=007\n", 0) == Block::Got(Command::Revoke { id: PublicationId(7) }, 17)
+#![tactic(auto)]
+
 pub mod inner;
 
 ghost use Rattle.std.specs.Prelude.{◌≡◌, ◌<◌};
@@ -11,7 +13,7 @@ ghost use Rattle.blocks.specs.Blocks.{keys_of, command_of, lines_at, block_at};
 use rules::{Command, LeaseId, Owner, Port, PublicationId};
 use text::{Op, Value, key_code, key_line_at, op_at};
 
-#[derive(Drop)]
+#[derive(Clone, Copy)]
 pub enum Block {
     Unfinished,
     Wrong,

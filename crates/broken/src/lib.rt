@@ -3,6 +3,8 @@
 //
 // A broken broker is the product's `apply` with one thing spoiled, in the same shape: a store and a command go in, an answer and a store
 // come back. Of the broken ones nothing is proved but that they are safe and end; that nobody at fault is ours is proved.
+#![tactic(auto)]
+
 ghost use Rattle.std.specs.Prelude.{◌≡◌};
 ghost use Rattle.store.specs.Columns.{columns_of};
 ghost use Rattle.store.specs.Answers.{applied_of};
@@ -12,7 +14,7 @@ use rules::{Command, Port, Refusal, Response};
 use store::{Applied, PublicationStore};
 
 // What is wrong with a broker.
-#[derive(Drop)]
+#[derive(Clone, Copy)]
 pub enum Fault {
     // Nothing: our broker, untouched.
     Nobody,

@@ -1,5 +1,7 @@
 // The program: a trace from standard input, and its report on standard output. All that is said of the report is said of trace::report;
 // here bytes are moved.
+#![tactic(auto)]
+
 use libc::{STDERR_FILENO, STDIN_FILENO, STDOUT_FILENO};
 
 fn main() {

@@ -3,6 +3,8 @@
 //
 // There is no table here: each function takes the columns that it reads, as they stand in fixed arrays, with the numbers of records
 // in use.
+#![tactic(auto)]
+
 ghost use Rattle.std.specs.Prelude.{◌≡◌};
 ghost use Rattle.rules.specs.Limits.{box};
 ghost use Rattle.rules.specs.SoundTest.{registry_test, store_test};
@@ -15,21 +17,21 @@ pub mod inner;
 pub mod records;
 
 // Where a search ended.
-#[derive(Drop)]
+#[derive(Clone, Copy)]
 pub enum Place {
     Nowhere,
     At(usize),
 }
 
 // What the tests of a row come to: the first that holds stops the call.
-#[derive(Drop)]
+#[derive(Clone, Copy)]
 pub enum Verdict {
     Stop(Refusal),
     Pass,
 }
 
 // The same of a call that names a lease, with the place of its record.
-#[derive(Drop)]
+#[derive(Clone, Copy)]
 pub enum Lookup {
     Stop(Refusal),
     At(usize),

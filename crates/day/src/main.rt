@@ -1,6 +1,8 @@
 // The day of one handle, through the store's public calls: a box publishes a key's place, two readers take leases, the key is replaced, the
 // wipe job revokes it and waits until both leases are back, and the reclaim hands over the handle to erase. Each answer is printed with its
 // number and name. Then a damaged store and a damaged registry are handed to every public call, and each answers 9.
+#![tactic(auto)]
+
 use libc::STDOUT_FILENO;
 use registry::{
     CountAnswer, DomainAnswer, IdAnswer, LeaseAnswer, LeaseIdAnswer, Plain, PublicationAnswer,

@@ -1,6 +1,8 @@
 // The run of a trace, its report and the name of a number, for programs in C: include/lease_broker.h declares these calls.
 //
 // A call works in the bytes that it is lent and on its own stack. It keeps nothing: the next run starts from an empty store again.
+#![tactic(auto)]
+
 ghost use Rattle.std.specs.Prelude.{length};
 ghost use Rattle.rules.specs.Limits.{box};
 ghost use Rattle.trace.specs.Report.{report};

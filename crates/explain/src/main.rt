@@ -1,5 +1,7 @@
 // The same run, told for a person: each command of a trace on a line with its answer in words, then why the run stopped, then what is still
 // retained, which is what must be seen before a box leaves. Every answer is the library's own; here it is put into columns.
+#![tactic(auto)]
+
 mod commands;
 mod ending;
 mod line;

@@ -9,14 +9,14 @@ use rules::{Command, Response};
 use writing::inner::number_of;
 
 // A command's row of the op table and of the key table, and the values of its keys in order; 0 where there is no key.
-#[derive(Drop)]
+#[derive(Clone, Copy)]
 pub struct Request {
     pub row: usize,
     pub values: [u64; 5],
 }
 
 // A response's number, and the keys of its values with the values in order; 0 where there is no key.
-#[derive(Drop)]
+#[derive(Clone, Copy)]
 pub struct Answer {
     pub number: u64,
     pub keys: [u8; 5],

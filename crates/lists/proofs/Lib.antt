@@ -13,3 +13,4 @@ pub mod Scan
 pub mod Below
 pub mod Ended
 pub mod Groups
+pub mod Bijection

@@ -3,3 +3,4 @@ pub mod Every
 pub mod Column
 pub mod Letters
 pub mod Removal
+pub mod Bijection

@@ -2,12 +2,14 @@
 // It carries nothing out, and moves only where it is told. A caller that keeps no reader calls block_after, whose parameters are plain.
 //
 //     block_after(b"op=count\nop=revoke\nid=7\n", 9) == Block::Got(Command::Revoke { id: PublicationId(7) }, 24)
+#![tactic(auto)]
+
 ghost use Rattle.std.specs.Prelude.{◌≡◌, leb, length};
 ghost use Rattle.blocks.specs.Blocks.{block_at};
 
 use blocks::{Block, block_at};
 
-#[derive(Drop)]
+#[derive(Clone, Copy)]
 pub struct Reader<'a> {
     pub trace: &'a [u8],
     pub at: usize,

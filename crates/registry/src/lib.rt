@@ -2,6 +2,8 @@
 //
 // Every call tests the registry first: one that isn't sound is answered BadTable, and a command gives it back exactly as it came.
 // Any other refusal gives the registry back unchanged as well.
+#![tactic(auto)]
+
 ghost use Rattle.std.specs.Prelude.{◌≡◌};
 ghost use Rattle.rules.specs.declared.Consumer.TheVariants.{Nobody, Episode};
 ghost use Rattle.rules.specs.declared.Domain.TheVariants.{Unset, Number};
@@ -19,7 +21,7 @@ pub mod inner;
 mod soundness;
 
 // Records past the counts are blank in a sound registry.
-#[derive(Drop)]
+#[derive(Clone, Copy)]
 pub struct PublicationRegistry {
     pub domain: Domain,
     pub publications: [Publication; 96],
@@ -31,49 +33,49 @@ pub struct PublicationRegistry {
 
 // What a call answers: why it is refused, or what it gives.
 
-#[derive(Drop)]
+#[derive(Clone, Copy)]
 pub enum IdAnswer {
     Refused(Refusal),
     Id(PublicationId),
 }
 
-#[derive(Drop)]
+#[derive(Clone, Copy)]
 pub enum LeaseIdAnswer {
     Refused(Refusal),
     Id(LeaseId),
 }
 
-#[derive(Drop)]
+#[derive(Clone, Copy)]
 pub enum SlotAnswer {
     Refused(Refusal),
     Slot(u64),
 }
 
-#[derive(Drop)]
+#[derive(Clone, Copy)]
 pub enum Plain {
     Refused(Refusal),
     Done,
 }
 
-#[derive(Drop)]
+#[derive(Clone, Copy)]
 pub enum PublicationAnswer {
     Refused(Refusal),
     Record(Publication),
 }
 
-#[derive(Drop)]
+#[derive(Clone, Copy)]
 pub enum LeaseAnswer {
     Refused(Refusal),
     Record(Lease),
 }
 
-#[derive(Drop)]
+#[derive(Clone, Copy)]
 pub enum DomainAnswer {
     Refused(Refusal),
     Is(Domain),
 }
 
-#[derive(Drop)]
+#[derive(Clone, Copy)]
 pub enum CountAnswer {
     Refused(Refusal),
     Count(u64),
@@ -81,25 +83,25 @@ pub enum CountAnswer {
 
 // An answer beside the registry that the call leaves.
 
-#[derive(Drop)]
+#[derive(Clone, Copy)]
 pub struct Published {
     pub answer: IdAnswer,
     pub registry: PublicationRegistry,
 }
 
-#[derive(Drop)]
+#[derive(Clone, Copy)]
 pub struct Acquired {
     pub answer: LeaseIdAnswer,
     pub registry: PublicationRegistry,
 }
 
-#[derive(Drop)]
+#[derive(Clone, Copy)]
 pub struct Changed {
     pub answer: Plain,
     pub registry: PublicationRegistry,
 }
 
-#[derive(Drop)]
+#[derive(Clone, Copy)]
 pub struct Reclaimed {
     pub answer: SlotAnswer,
     pub registry: PublicationRegistry,

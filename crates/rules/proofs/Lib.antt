@@ -25,3 +25,4 @@ pub mod Refuted
 pub mod Drain
 pub mod LeftBehind
 pub mod Responses
+pub mod Numbers

@@ -2,21 +2,22 @@
 // this crate has no code to run, and every crate above it cites its definitions.
 //
 // Numbers of different kinds are different types, so that a lease can't be passed for a publication.
+#![tactic(auto)]
 
-#[derive(Drop)]
+#[derive(Clone, Copy)]
 pub struct PublicationId(pub u64);
 
-#[derive(Drop)]
+#[derive(Clone, Copy)]
 pub struct LeaseId(pub u64);
 
-#[derive(Drop)]
+#[derive(Clone, Copy)]
 pub struct Owner(pub u64);
 
-#[derive(Drop)]
+#[derive(Clone, Copy)]
 pub struct Port(pub u32);
 
 // One handle that was published: whose it is, where it is looked up, and whether it still is (visible) and still stands (retained).
-#[derive(Drop)]
+#[derive(Clone, Copy)]
 pub struct Publication {
     pub owner: Owner,
     pub generation: u64,
@@ -27,14 +28,14 @@ pub struct Publication {
 }
 
 // Who took a lease: nobody by name, or an owner in a generation.
-#[derive(Drop)]
+#[derive(Clone, Copy)]
 pub enum Consumer {
     Nobody,
     Episode(Owner, u64),
 }
 
 // An active lease. A released one has no record.
-#[derive(Drop)]
+#[derive(Clone, Copy)]
 pub struct Lease {
     pub id: LeaseId,
     pub publication: PublicationId,
@@ -42,14 +43,14 @@ pub struct Lease {
 }
 
 // The domain that a table was made for, recorded only.
-#[derive(Drop)]
+#[derive(Clone, Copy)]
 pub enum Domain {
     Unset,
     Number(u64),
 }
 
 // Why a call is refused; specs/Refusals.antt has the numbers.
-#[derive(Drop)]
+#[derive(Clone, Copy)]
 pub enum Refusal {
     Unknown,
     Revoked,
@@ -64,7 +65,7 @@ pub enum Refusal {
 }
 
 // The store's commands, as a trace writes them.
-#[derive(Drop)]
+#[derive(Clone, Copy)]
 pub enum Command {
     Publish {
         owner: Owner,
@@ -110,7 +111,7 @@ pub enum Command {
 }
 
 // What is read through a lease.
-#[derive(Drop)]
+#[derive(Clone, Copy)]
 pub struct Reading {
     pub id: PublicationId,
     pub revision: u64,
@@ -118,21 +119,21 @@ pub struct Reading {
 }
 
 // What is observed of a publication.
-#[derive(Drop)]
+#[derive(Clone, Copy)]
 pub struct Observation {
     pub revision: u64,
     pub handle: u64,
 }
 
 // A publication and its handle: what is read through a lease, without the revision.
-#[derive(Drop)]
+#[derive(Clone, Copy)]
 pub struct Leased {
     pub id: PublicationId,
     pub handle: u64,
 }
 
 // What any command is answered, in one type for all of them.
-#[derive(Drop)]
+#[derive(Clone, Copy)]
 pub enum Response {
     // Refused; and refused with the offered handle back.
     Refused(Refusal),

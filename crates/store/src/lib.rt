@@ -2,6 +2,8 @@
 //
 // Every call tests the store first: one that isn't sound is answered BadTable, and a command gives it back exactly as it came.
 // Any other refusal gives the store back unchanged as well, and publish and replace give the offered handle back.
+#![tactic(auto)]
+
 ghost use Rattle.std.specs.Prelude.{◌≡◌};
 ghost use Rattle.rules.specs.declared.Domain.TheVariants.{Unset, Number};
 ghost use Rattle.rules.specs.declared.Command.TheVariants.{Publish, Adopt, Acquire, Release, Revoke, Replace, Reclaim, Read, Observe, Resolve, Count};
@@ -28,7 +30,7 @@ use rules::{
 pub mod inner;
 
 // Records and cells past the counts are blank in a sound store.
-#[derive(Drop)]
+#[derive(Clone, Copy)]
 pub struct PublicationStore {
     pub domain: Domain,
     pub publications: [Publication; 96],
@@ -42,37 +44,37 @@ pub struct PublicationStore {
 
 // What a call answers: why it is refused, or what it gives. An offered handle comes back inside the refusal.
 
-#[derive(Drop)]
+#[derive(Clone, Copy)]
 pub enum PublishAnswer {
     Refused(Refusal, u64),
     Id(PublicationId),
 }
 
-#[derive(Drop)]
+#[derive(Clone, Copy)]
 pub enum ReplaceAnswer {
     Refused(Refusal, u64),
     Earlier(u64),
 }
 
-#[derive(Drop)]
+#[derive(Clone, Copy)]
 pub enum HandleAnswer {
     Refused(Refusal),
     Handle(u64),
 }
 
-#[derive(Drop)]
+#[derive(Clone, Copy)]
 pub enum ReadAnswer {
     Refused(Refusal),
     Read(Reading),
 }
 
-#[derive(Drop)]
+#[derive(Clone, Copy)]
 pub enum ObserveAnswer {
     Refused(Refusal),
     Observed(Observation),
 }
 
-#[derive(Drop)]
+#[derive(Clone, Copy)]
 pub enum LeasedAnswer {
     Refused(Refusal),
     Value(Leased),
@@ -80,64 +82,64 @@ pub enum LeasedAnswer {
 
 // An answer beside the store that the call leaves.
 
-#[derive(Drop)]
+#[derive(Clone, Copy)]
 pub struct Published {
     pub answer: PublishAnswer,
     pub store: PublicationStore,
 }
 
-#[derive(Drop)]
+#[derive(Clone, Copy)]
 pub struct Changed {
     pub answer: Plain,
     pub store: PublicationStore,
 }
 
-#[derive(Drop)]
+#[derive(Clone, Copy)]
 pub struct Acquired {
     pub answer: LeaseIdAnswer,
     pub store: PublicationStore,
 }
 
-#[derive(Drop)]
+#[derive(Clone, Copy)]
 pub struct Replaced {
     pub answer: ReplaceAnswer,
     pub store: PublicationStore,
 }
 
-#[derive(Drop)]
+#[derive(Clone, Copy)]
 pub struct Reclaimed {
     pub answer: HandleAnswer,
     pub store: PublicationStore,
 }
 
-#[derive(Drop)]
+#[derive(Clone, Copy)]
 pub struct Applied {
     pub response: Response,
     pub store: PublicationStore,
 }
 
 // An answer beside a yes or no, which is no where the call is refused.
-#[derive(Drop)]
+#[derive(Clone, Copy)]
 pub struct Contained {
     pub answer: Plain,
     pub present: bool,
 }
 
 // An answer beside a copy of the registry, which is the empty one without domain where the call is refused.
-#[derive(Drop)]
+#[derive(Clone, Copy)]
 pub struct RegistryCopy {
     pub answer: Plain,
     pub registry: PublicationRegistry,
 }
 
 // One handle by itself.
-#[derive(Drop)]
+#[derive(Clone, Copy)]
 pub struct ValueCell {
     pub value: u64,
 }
 
 // The earlier handle beside the cell.
-#[derive(Drop)]
+#[derive(Clone, Copy)]
 pub struct Exchanged {
     pub earlier: u64,
     pub cell: ValueCell,

@@ -5,6 +5,8 @@
 // place after it; Unfinished, where further bytes could still make the text right; Wrong, where none could.
 //
 //     key_line_at(b"id=007\n", 0, 5)  answers  Value::Got(7, 7)
+#![tactic(auto)]
+
 ghost use Rattle.std.specs.Prelude.{◌≡◌, ◌<◌};
 ghost use Rattle.text.specs.Value.{value_at};
 ghost use Rattle.text.specs.Words.{word_at};
@@ -12,7 +14,7 @@ ghost use Rattle.text.specs.Ops.{op_line_of, row_at, op_at};
 ghost use Rattle.text.specs.Keys.{key_code};
 ghost use Rattle.text.specs.Lines.{key_line_at, line_at};
 
-#[derive(Drop)]
+#[derive(Clone, Copy)]
 pub enum Value {
     Unfinished,
     Wrong,
@@ -20,14 +22,14 @@ pub enum Value {
     Got(u64, usize),
 }
 
-#[derive(Drop)]
+#[derive(Clone, Copy)]
 pub enum Word {
     Unfinished,
     Wrong,
     Is,
 }
 
-#[derive(Drop)]
+#[derive(Clone, Copy)]
 pub enum Op {
     Unfinished,
     Wrong,

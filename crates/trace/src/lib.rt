@@ -2,6 +2,8 @@
 //
 // Before each block: the end of the trace stops with 0, else fewer than 96 bytes of room with 12, else a wrong or unfinished block
 // with 11. A stop changes nothing and writes nothing.
+#![tactic(auto)]
+
 pub mod inner;
 
 ghost use Rattle.std.specs.Prelude.{length};
@@ -15,7 +17,7 @@ use store::PublicationStore;
 
 // Where a run stopped: the store after the blocks done, the stop number, how many blocks were done, the bytes read up to the stopped
 // block's start, and the bytes written.
-#[derive(Drop)]
+#[derive(Clone, Copy)]
 pub struct Stopped {
     pub store: PublicationStore,
     pub stop: u64,
@@ -25,7 +27,7 @@ pub struct Stopped {
 }
 
 // The number that a report tells, and its length.
-#[derive(Drop)]
+#[derive(Clone, Copy)]
 pub struct Reported {
     pub stop: u64,
     pub written: usize,

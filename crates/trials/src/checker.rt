@@ -8,7 +8,7 @@ use crate::traces::{
 };
 
 // What the answers tell of a publication.
-#[derive(Drop)]
+#[derive(Clone, Copy)]
 pub struct Page {
     // Published, and not reclaimed.
     pub stands: bool,
@@ -23,7 +23,7 @@ pub struct Page {
 }
 
 // A lease given out and not released: one more than its publication's identifier (0: none), and when it was given out.
-#[derive(Drop)]
+#[derive(Clone, Copy)]
 pub struct Loan {
     pub of: u64,
     pub since: u64,
@@ -31,7 +31,7 @@ pub struct Loan {
 
 // The handles accepted and not handed back, each as often as that, are the first of the bag. There is room for all that the traces give
 // out; an identifier beyond it is not noted, and demand 2 finds it.
-#[derive(Drop)]
+#[derive(Clone, Copy)]
 pub struct History {
     pub pages: [Page; 96],
     pub loans: [Loan; 160],

@@ -2,6 +2,8 @@
 // which command. The broken ones show that the checker can fail.
 //
 // What it must print stands in the file stdout: the findings that follow from document 01 and from each broker's fault.
+#![tactic(auto)]
+
 use broken::Fault;
 use rules::Response;
 use store::PublicationStore;
@@ -14,7 +16,7 @@ mod traces;
 
 // A broker on trial for one demand: its store, what its answers told, the trace and the place in it, and how many commands were judged. It
 // ends at the first answer that is not the due one.
-#[derive(Drop)]
+#[derive(Clone, Copy)]
 pub struct Trial {
     pub store: PublicationStore,
     pub history: checker::History,

@@ -202,7 +202,7 @@ fn replacing(row: usize) -> [u64; 11] {
 }
 
 // What is asked: a command's number and its keys.
-#[derive(Drop)]
+#[derive(Clone, Copy)]
 pub struct Asked {
     pub op: u64,
     pub a: u64,
@@ -212,7 +212,7 @@ pub struct Asked {
 }
 
 // What is answered: in which form, with which number and values.
-#[derive(Drop)]
+#[derive(Clone, Copy)]
 pub struct Told {
     pub form: u64,
     pub number: u64,
@@ -241,7 +241,7 @@ pub const OBSERVED: u64 = 7;
 pub const NUMBER: u64 = 8;
 
 // One turn of a row.
-#[derive(Drop)]
+#[derive(Clone, Copy)]
 pub struct Step {
     pub trace: u64,
     pub times: u64,

@@ -1,5 +1,7 @@
 // Traces from outside with the reports that they must have: NAME.trace and NAME.answers, in the folder that it is started in, for each NAME
 // that it is started with. Each trace goes through trace::report, and every byte of the report is compared.
+#![tactic(auto)]
+
 ghost use Rattle.std.specs.Prelude.{◌≡◌, ◌≤◌};
 ghost use Rattle.io.specs.Counts.{IsPrefixLen};
 
