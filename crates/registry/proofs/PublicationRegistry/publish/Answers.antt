@@ -1,0 +1,19 @@
+-- `publish` meets its contract: the inner call on a sound registry, BadTable on any other.
+-- Assumes nothing.
+use mathlib.Core.Path.{sym, ◌∙◌}
+use Rattle.rules.specs.Limits.{box}
+use Rattle.rules.proofs.TestedRegistry.{registry_tested}
+use Rattle.rules.proofs.Called.{call_sound, call_damaged}
+use Rattle.registry.proofs.PublicationRegistry.publish.Goals as goal
+
+pub publish-requires : goal.publish-requires
+publish-requires c =
+    (registry_tested box _).0 (sym c.is_sound.ensures ∙ c.if-is_sound.true)
+
+pub returns-then-is_sound : goal.returns-then-is_sound
+returns-then-is_sound c =
+    rw (call_sound box _ _ ((registry_tested box _).0 (sym c.is_sound.ensures ∙ c.if-is_sound.true))) c.publish.ensures
+
+pub returns : goal.returns
+returns c =
+    rw (call_damaged box _ _ (sym c.is_sound.ensures ∙ c.if-is_sound.false))
