@@ -13,7 +13,7 @@ use Rattle.text.specs.Words.{TheWord, word_at, word_reading}
 use Rattle.text.specs.Keys.{command_key, key_text, key_limit}
 use Rattle.text.specs.Lines.{KeyLine, after_word, line_at, key_line_at}
 use Rattle.text.specs.declared.Word as W
-use Rattle.text.specs.declared.Value.TheVariants.{Unfinished, Wrong, Got}
+use Rattle.text.specs.declared.Value.TheVariants.{Wrong, Got}
 use Rattle.text.proofs.Reading.{means_same, within}
 use Rattle.text.proofs.Sequence.{then_exact}
 use Rattle.text.proofs.Values.{value_exact, some_value}

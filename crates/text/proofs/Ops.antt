@@ -19,7 +19,7 @@ use Rattle.text.specs.Words.{TheWord, compared, word_at, word_reading}
 use Rattle.text.specs.Ops.{op_lines, RowOf, OpLine, row_found, row_at, or_next, first_row, op_at, op_reading}
 use Rattle.text.specs.declared.Word as W
 use Rattle.text.specs.declared.Op.{Op}
-use Rattle.text.specs.declared.Op.TheVariants.{Unfinished, Wrong, Row}
+use Rattle.text.specs.declared.Op.TheVariants.{Row}
 use Rattle.text.proofs.Reading.{means_other, means_same, shows, within}
 use Rattle.text.proofs.Words.{word_exact}
 

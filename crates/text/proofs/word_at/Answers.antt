@@ -1,0 +1,25 @@
+-- `word_at` meets its contract: at each turn the rest of the word and of the input decide.
+-- Assumes nothing.
+use native.Mathlib.Omega.{arith}
+use Rattle.text.proofs.WordTurns.{compare_starts, compare_is, compare_ends, compare_stops, compare_goes_on}
+use Rattle.text.proofs.word_at.Goals as goal
+
+pub loop-j-init : goal.loop-j-init
+loop-j-init c =
+    compare_starts _ _ _
+
+pub returns-then-s-i : goal.returns-then-s-i
+returns-then-s-i c =
+    compare_ends c.loop-j.invariant (omega arith) (omega arith)
+
+pub returns-then-s-i-2 : goal.returns-then-s-i-2
+returns-then-s-i-2 c =
+    compare_stops c.loop-j.invariant (omega arith) (omega arith) (λ z. omega arith)
+
+pub loop-j-preserved : goal.loop-j-preserved
+loop-j-preserved c =
+    compare_goes_on c.loop-j.invariant (omega arith) (omega arith) (omega arith)
+
+pub returns : goal.returns
+returns c =
+    compare_is c.loop-j.invariant (omega arith)
