@@ -1,6 +1,6 @@
 -- What the test for 9 tells: the call is the row's on a sound store, and BadTable on any other.
 -- Assumes nothing.
-use mathlib.Core.Path.{◌≡◌, sym, ap, ◌∙◌}
+use mathlib.Core.Path.{◌≡◌, refl, sym, ap, ◌∙◌}
 use mathlib.Core.Bool.{Bool, true, false}
 use Rattle.rules.specs.Limits.{Limits}
 use Rattle.rules.specs.Answers.{Outcome, refused}
@@ -22,7 +22,7 @@ pub domain_unread : (L : Limits) (c : StoreColumns)
     → store_test L (store_columns_of c.registry.publications c.registry.count c.registry.leases c.registry.active c.registry.counter c.payloads c.revisions)
     ≡ store_test L c
 unfolding store_test registry_test
-domain_unread L c = cc
+domain_unread L c = refl
 
 module _ (L : Limits) (c : StoreColumns) {b : Bool} (e : b ≡ store_test L c) where
   pub sound_when : b ≡ true → StoreColumnsSound L c

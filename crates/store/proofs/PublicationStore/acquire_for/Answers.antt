@@ -1,0 +1,21 @@
+-- `acquire_for` meets its contract: the inner call on a sound store, BadTable on any other.
+-- Assumes nothing.
+use mathlib.Core.Path.{sym, ap, ◌∙◌}
+use Rattle.rules.specs.Limits.{box}
+use Rattle.rules.specs.declared.Command.TheVariants.{Acquire}
+use Rattle.store.specs.Columns.{columns_of}
+use Rattle.store.specs.Answers.{acquired_of}
+use Rattle.store.proofs.Guard.{sound_when, command_when, command_unless}
+use Rattle.store.proofs.PublicationStore.acquire_for.Goals as goal
+
+pub acquire_for-requires : goal.acquire_for-requires
+acquire_for-requires c =
+    sound_when box (columns_of c.args.self) c.is_sound.ensures c.if-is_sound.true
+
+pub returns-then-is_sound : goal.returns-then-is_sound
+returns-then-is_sound c =
+    c.acquire_for.ensures ∙ sym (ap acquired_of (command_when box (columns_of c.args.self) c.is_sound.ensures (Acquire c.args.id c.args.owner c.args.generation) c.if-is_sound.true))
+
+pub returns : goal.returns
+returns c =
+    sym (ap acquired_of (command_unless box (columns_of c.args.self) c.is_sound.ensures (Acquire c.args.id c.args.owner c.args.generation) c.if-is_sound.false))

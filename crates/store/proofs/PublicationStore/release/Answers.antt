@@ -1,0 +1,21 @@
+-- `release` meets its contract: the inner call on a sound store, BadTable on any other.
+-- Assumes nothing.
+use mathlib.Core.Path.{sym, ap, ◌∙◌}
+use Rattle.rules.specs.Limits.{box}
+use Rattle.rules.specs.declared.Command.TheVariants.{Release}
+use Rattle.store.specs.Columns.{columns_of}
+use Rattle.store.specs.Answers.{changed_of}
+use Rattle.store.proofs.Guard.{sound_when, command_when, command_unless}
+use Rattle.store.proofs.PublicationStore.release.Goals as goal
+
+pub release-requires : goal.release-requires
+release-requires c =
+    sound_when box (columns_of c.args.self) c.is_sound.ensures c.if-is_sound.true
+
+pub returns-then-is_sound : goal.returns-then-is_sound
+returns-then-is_sound c =
+    c.release.ensures ∙ sym (ap changed_of (command_when box (columns_of c.args.self) c.is_sound.ensures (Release c.args.lease) c.if-is_sound.true))
+
+pub returns : goal.returns
+returns c =
+    sym (ap changed_of (command_unless box (columns_of c.args.self) c.is_sound.ensures (Release c.args.lease) c.if-is_sound.false))

@@ -1,0 +1,21 @@
+-- `resolve` meets its contract: the inner call on a sound store, BadTable on any other.
+-- Assumes nothing.
+use mathlib.Core.Path.{sym, ap, ◌∙◌}
+use Rattle.rules.specs.Limits.{box}
+use Rattle.rules.specs.declared.Command.TheVariants.{Resolve}
+use Rattle.store.specs.Columns.{columns_of}
+use Rattle.registry.specs.Answers.{id_answer_of}
+use Rattle.store.proofs.Guard.{sound_when, answer_when, answer_unless}
+use Rattle.store.proofs.PublicationStore.resolve.Goals as goal
+
+pub resolve-requires : goal.resolve-requires
+resolve-requires c =
+    sound_when box (columns_of c.args.self) c.is_sound.ensures c.if-is_sound.true
+
+pub returns-then-is_sound : goal.returns-then-is_sound
+returns-then-is_sound c =
+    c.resolve.ensures ∙ sym (ap id_answer_of (answer_when box (columns_of c.args.self) c.is_sound.ensures (Resolve c.args.port) c.if-is_sound.true))
+
+pub returns : goal.returns
+returns c =
+    sym (ap id_answer_of (answer_unless box (columns_of c.args.self) c.is_sound.ensures (Resolve c.args.port) c.if-is_sound.false))

@@ -1,8 +1,0 @@
--- `handle_response` meets its contract, case by case.
--- Assumes nothing.
-use borrow.Author.Rules.{rules}
-use Rattle.store.proofs.inner.any.handle_response.Statement.{statement}
-use Rattle.store.proofs.inner.any.handle_response.Tie as tie
-
-pub handle_response_spec : {M : Type 1} → statement M
-handle_response_spec = tie.close (tie.spec (λ c. search rules) (λ c. search rules) (λ c. cc) (λ c. cc))
