@@ -12,7 +12,7 @@ use Rattle.text.specs.Digits.{digits_in, digits}
 use Rattle.text.specs.Keys.{answer, id, lease, payload, revision, count, wide, key_text}
 use Rattle.text.specs.Lines.{line_text}
 use Rattle.writing.proofs.Lines.{line_most}
-use Rattle.blocks.specs.Answers.{◌is◌, answer_lines, answer_text}
+use Rattle.blocks.specs.Answers.{answer_lines, answer_text}
 
 -- the longest line of each key
 
