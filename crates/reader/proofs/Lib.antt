@@ -1,3 +1,0 @@
-pub mod Calls
-pub mod Walks
-pub mod Readers
