@@ -3,12 +3,10 @@
 use Prim.Native.Nat.{ℕ, suc, ◌+◌, ◌-◌, ◌≤◌, ◌<◌}
 use mathlib.Core.Path.{◌≡◌, refl, sym, ap, subst, ◌∙◌}
 use mathlib.Core.Bool.{Bool, true, false}
-use mathlib.Core.List.{List, [], ◌∷◌, ◌++◌}
-use mathlib.Core.Logic.{⊎_elim}
+use mathlib.Core.List.{List, [], ◌++◌}
+use mathlib.Core.Logic.{◌⊎◌, ⊎_elim}
 use native.Mathlib.Omega.{arith}
 use lib.ListN.{length, length-append}
-use types.Run.{OneOf}
-use denote.Enum.Declared.{tag_of}
 use Rattle.rules.specs.Limits.{box}
 use Rattle.rules.specs.Refusals.{bad_line, no_room}
 use Rattle.rules.specs.Table.{Store}
@@ -28,7 +26,6 @@ use Rattle.blocks.specs.Blocks.{block_at}
 use Rattle.blocks.specs.Answers.{answer_text}
 use Rattle.blocks.specs.declared.Block.{Block}
 use Rattle.blocks.specs.declared.Block.TheVariants.{Unfinished, Wrong, Got}
-use Rattle.blocks.specs.contracts.Block.{the_type}
 use Rattle.blocks.proofs.Blocks.{block_next}
 use Rattle.blocks.proofs.Answers.{answer_fits}
 use Rattle.writing.specs.Written.{over, over_from}
@@ -45,11 +42,9 @@ use Rattle.trace.proofs.Turns.{run_when, run_unless, Ready, ends, fills, breaks,
 abbrev so_far : PublicationStore → ℕ → ℕ → List ℕ → Progress Store
 so_far left blocks i text = record { table = used (columns_of left); blocks = blocks; read = i; text = text }
 
--- a block that is unfinished or wrong, by its tag
-none_by_tag : (trace : List ℕ) (i : ℕ) (b : Block) → b ≡ block_at trace i → OneOf (0 ∷ 1 ∷ []) (tag_of the_type b) → NoBlock trace i
-none_by_tag trace i Unfinished e t = none_unfinished trace i (sym e)
-none_by_tag trace i Wrong e t = none_wrong trace i (sym e)
-none_by_tag trace i (Got c next) e t = absurd (⊎_elim (λ p. omega arith) (λ p. omega arith) t)
+-- a block that is unfinished or wrong
+none_of_both : (trace : List ℕ) (i : ℕ) (b : Block) → b ≡ block_at trace i → (b ≡ Unfinished) ⊎ (b ≡ Wrong) → NoBlock trace i
+none_of_both trace i b e t = ⊎_elim (λ p. none_unfinished trace i (sym e ∙ p)) (λ p. none_wrong trace i (sym e ∙ p)) t
 
 -- left, blocks, i and at are the loop's locals; store and out₀ came in
 pub record Running (trace out₀ : List ℕ) (room : ℕ) (store : PublicationStore) (out : List ℕ) (left : PublicationStore) (blocks i at : ℕ) : Type 0 where
@@ -116,8 +111,8 @@ module _ {trace out₀ : List ℕ} {room : ℕ} {store : PublicationStore} {out 
       ready : Ready box room trace g
       ready = record { more = h; spare = omega (arith, k.place) }
 
-      pub run_breaks : (b : Block) → b ≡ block_at trace i → OneOf (0 ∷ 1 ∷ []) (tag_of the_type b) → StopsWith bad_line
-      run_breaks b e t = stops bad_line (turns ∙ breaks box room trace fewer g ready (none_by_tag trace i b e t))
+      pub run_breaks : (b : Block) → b ≡ block_at trace i → (b ≡ Unfinished) ⊎ (b ≡ Wrong) → StopsWith bad_line
+      run_breaks b e t = stops bad_line (turns ∙ breaks box room trace fewer g ready (none_of_both trace i b e t))
 
       module _ (c : Command) (next : ℕ) (e : block_at trace i ≡ Got c next) where
         abbrev after : Store
