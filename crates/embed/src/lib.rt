@@ -13,8 +13,7 @@ use writing::inner::put_name;
 
 // Runs a trace from an empty store without domain and writes its answers into out. Answers the stop number; counts gets the blocks done,
 // the bytes read up to the stopped block's start, and the bytes written.
-#[unsafe(no_mangle)]
-pub extern "C" fn lease_broker_run(trace: &[u8], out: &mut [u8], counts: &mut [u64; 3]) -> u64
+pub fn lease_broker_run(trace: &[u8], out: &mut [u8], counts: &mut [u64; 3]) -> u64
     ensures { Runs (run_empty (length out.old) trace.now) result out.old out.new counts.new }
 {
     let r = trace::run(PublicationStore::new(), trace, out);
@@ -23,8 +22,7 @@ pub extern "C" fn lease_broker_run(trace: &[u8], out: &mut [u8], counts: &mut [u
 }
 
 // Writes the report of a trace into out, as the program prints it. Answers the number that the report tells; written gets its length.
-#[unsafe(no_mangle)]
-pub extern "C" fn lease_broker_report(trace: &[u8], out: &mut [u8], written: &mut u64) -> u64
+pub fn lease_broker_report(trace: &[u8], out: &mut [u8], written: &mut u64) -> u64
     ensures { Reports (report box (length out.old) trace.now) result out.old out.new written.new }
 {
     let r = trace::report(trace, out);
@@ -33,8 +31,7 @@ pub extern "C" fn lease_broker_report(trace: &[u8], out: &mut [u8], written: &mu
 }
 
 // Writes the name of a number at the start of out and answers its length. An out of fewer than 12 bytes is left as it is, and answered 0.
-#[unsafe(no_mangle)]
-pub extern "C" fn lease_broker_name(number: u64, out: &mut [u8]) -> u64
+pub fn lease_broker_name(number: u64, out: &mut [u8]) -> u64
     ensures { Names (name_in (length out.old) number) result out.old out.new }
 {
     if out.len() < 12 {
