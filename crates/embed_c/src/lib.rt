@@ -1,0 +1,35 @@
+// The names for C of the run, the report and the name of a number: include/lease_broker.h declares these calls. Each is the library's call
+// of that name, with its clauses.
+//
+// A call works in the bytes that it is lent and on its own stack. It keeps nothing: the next run starts from an empty store again.
+#![tactic(auto)]
+
+ghost use Rattle.std.specs.Prelude.{length};
+ghost use Rattle.rules.specs.Limits.{box};
+ghost use Rattle.trace.specs.Report.{report};
+ghost use Rattle.embed.specs.Handed.{run_empty, name_in, Runs, Reports, Names};
+
+// Runs a trace from an empty store without domain and writes its answers into out. Answers the stop number; counts gets the blocks done,
+// the bytes read up to the stopped block's start, and the bytes written.
+#[unsafe(no_mangle)]
+pub extern "C" fn lease_broker_run(trace: &[u8], out: &mut [u8], counts: &mut [u64; 3]) -> u64
+    ensures { Runs (run_empty (length out.old) trace.now) result out.old out.new counts.new }
+{
+    embed::lease_broker_run(trace, out, counts)
+}
+
+// Writes the report of a trace into out, as the program prints it. Answers the number that the report tells; written gets its length.
+#[unsafe(no_mangle)]
+pub extern "C" fn lease_broker_report(trace: &[u8], out: &mut [u8], written: &mut u64) -> u64
+    ensures { Reports (report box (length out.old) trace.now) result out.old out.new written.new }
+{
+    embed::lease_broker_report(trace, out, written)
+}
+
+// Writes the name of a number at the start of out and answers its length. An out of fewer than 12 bytes is left as it is, and answered 0.
+#[unsafe(no_mangle)]
+pub extern "C" fn lease_broker_name(number: u64, out: &mut [u8]) -> u64
+    ensures { Names (name_in (length out.old) number) result out.old out.new }
+{
+    embed::lease_broker_name(number, out)
+}
