@@ -8,7 +8,7 @@ use Rattle.rules.proofs.KeepsStore.{empty_sound}
 use Rattle.rules.proofs.Called.{empty_columns_sound}
 use Rattle.demands.specs.Calls.{Sound, stored}
 use Rattle.demands.specs.Sessions.{by_the_rules}
-use Rattle.demands.specs.Demand3.{left, Demand3}
+use Rattle.demands.specs.Demand3.{Demand3}
 use Rattle.demands.proofs.Sessions.{new_is, makes, rows, led, asked_for}
 use Rattle.demands.proofs.Texts.{makes_the_calls, tells_a_session}
 use Rattle.demands.proofs.Wiped.{is_relied, is_returned}

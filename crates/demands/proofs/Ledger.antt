@@ -27,7 +27,6 @@ use Rattle.store.specs.declared.PublicationStore.{PublicationStore}
 use Rattle.demands.specs.Calls.{stored, Called}
 use Rattle.demands.specs.Sessions.{Exchange, Session, commands, happened}
 use Rattle.demands.specs.Retained.{retained_at, retained}
-use Rattle.demands.specs.Demand3.{left}
 use Rattle.demands.proofs.Sessions.{steps, rows, Follows, start, session_follows}
 use Rattle.demands.proofs.Retained.{at_place, keeps}
 

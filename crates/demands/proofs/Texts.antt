@@ -34,7 +34,7 @@ use Rattle.trace.proofs.Turns.{run_when, run_unless}
 use Rattle.trace.proofs.Reports.{report_refused, report_long, report_ran}
 use Rattle.trace.proofs.Followed.{followed}
 use Rattle.demands.specs.Calls.{Sound, table_of, stored}
-use Rattle.demands.specs.Sessions.{Exchange, Leads, commands, by_the_rules}
+use Rattle.demands.specs.Sessions.{Exchange, Leads, by_the_rules}
 use Rattle.demands.specs.Texts.{Run, Report, responses, WrittenDown, MadeTheCalls, ToldASession}
 use Rattle.demands.proofs.Sessions.{makes, rows, led, asked_for}
 

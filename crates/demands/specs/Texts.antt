@@ -3,7 +3,7 @@
 -- Assumes nothing.
 use Rattle.std.specs.Prelude.{ℕ, ◌≡◌, List, [], ◌∷◌, ◌++◌, length, take, drop}
 use contract.Lifetimes.{Lfts}
-use Rattle.std.specs.Borrow.{Bor}
+use Rattle.std.specs.Borrow.{Bor, MutBor}
 use Rattle.rules.specs.Responses.{response_of}
 use Rattle.rules.specs.declared.Response.{Response}
 use Rattle.blocks.specs.Answers.{answers_text}
@@ -19,8 +19,8 @@ use Rattle.demands.specs.Sessions.{Exchange, Leads, Session, commands}
 pub record Lent (text out left : List ℕ) : Type 0 where
   pub lifetimes : Lfts 2
   pub from : Bor (List ℕ)
-  pub into : Bor (List ℕ)
-  pub end : Bor (List ℕ)
+  pub into : MutBor (List ℕ)
+  pub end : MutBor (List ℕ)
   pub text_is : from.now ≡ text
   pub out_is : into.now ≡ out
   pub left_is : end.now ≡ left
