@@ -15,7 +15,7 @@ use Rattle.lists.proofs.Place.{get_d_set}
 use Rattle.lists.proofs.Total.{total, tally, tally-append, how_many-total, how_many-tally, length-tally}
 use Rattle.rules.specs.Limits.{Limits}
 use Rattle.rules.specs.Answers.{Outcome, refused, done}
-use Rattle.rules.specs.Table.{Store, at, blank_publication, publication_of, payload_of}
+use Rattle.rules.specs.Table.{Store, blank_publication, publication_of, payload_of}
 use Rattle.rules.specs.Changes.{hidden}
 use Rattle.rules.specs.Rows.{effect, step}
 use Rattle.rules.specs.Broker.{Broker, Event, run, told}
