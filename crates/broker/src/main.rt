@@ -2,15 +2,17 @@
 // here bytes are moved.
 #![tactic(auto)]
 
-use libc::{STDERR_FILENO, STDIN_FILENO, STDOUT_FILENO};
+use std::io;
 
-fn main() {
+fn main(rt: HostRuntime) -> io::Result<()> {
     // One byte more than a trace may have, so that longer input is noticed.
     let mut input = [0u8; 65537];
-    let n = io::read_full(STDIN_FILENO, &mut input);
+    let n = intake::read_full(&mut rt.stdin(), &mut input)?;
     let mut out = [0u8; 65600];
     let written = trace::report(&input[..n], &mut out).written;
-    if !io::write_all(STDOUT_FILENO, &out[..written]) {
-        io::write_all(STDERR_FILENO, b"broker: the report can't be written\n");
+    let told = rt.write_all(&out[..written]);
+    if told.is_err() {
+        eprintln!(rt; "broker: the report can't be written")?;
     }
+    told
 }

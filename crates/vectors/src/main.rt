@@ -2,42 +2,52 @@
 // that it is started with. Each trace goes through trace::report, and every byte of the report is compared.
 #![tactic(auto)]
 
-ghost use Rattle.std.specs.Prelude.{◌≡◌, ◌≤◌};
-ghost use Rattle.io.specs.Counts.{IsPrefixLen};
+ghost use Rattle.std.specs.Prelude.{◌≡◌, ◌≤◌, IfOk, length, take};
+ghost use Rattle.std.specs.Io.{ReadsAtMost};
 
-use libc::STDOUT_FILENO;
+use std::rt::{Env, Files};
+use std::{env, fs, io, str};
 
-// Reads the file whose path is the first n bytes of path and then ending, and answers how many bytes it put into buf.
-fn load(path: &mut [u8], n: usize, ending: &[u8], buf: &mut [u8]) -> usize
-    ensures { IsPrefixLen result buf.new }
+// Reads the file whose path is the first n bytes of path and then ending, and answers how many bytes it put into buf. Of a file that can't
+// be opened it tells why on standard error, and puts nothing.
+fn load(
+    rt: &(impl Files + Eprint),
+    path: &mut [u8],
+    n: usize,
+    ending: &[u8],
+    buf: &mut [u8],
+) -> io::Result<usize>
+    ensures { ReadsAtMost result buf.new }
 {
     let end = put_after(path, n, ending);
-    let fd = os::open_read(&path[..end]);
-    if fd < 0 {
-        os::fail(&path[..end]);
-        return 0;
+    let Ok(name) = str::from_utf8(&path[..end]) else {
+        eprintln!(rt; "a path that is no text")?;
+        return Ok(0);
+    };
+    match fs::open(rt, name) {
+        Ok(mut file) => intake::read_full(&mut file, buf),
+        Err(why) => {
+            eprintln!(rt; "{name}: {why}")?;
+            Ok(0)
+        }
     }
-    let got = io::read_full(fd, buf);
-    libc::close(fd);
-    got
 }
 
 // Puts w into path after its first n bytes, as far as there is room, and answers the place after it.
 fn put_after(path: &mut [u8], n: usize, w: &[u8]) -> usize
-    ensures { IsPrefixLen result path.new }
+    ensures within { result ≤ length path.new }
+    ensures counts { result ≡ length (take result path.new) }
 {
     if path.len() < n {
         return 0;
     }
     let mut end = n;
-    let mut i = 0;
-    while i < w.len() {
+    for b in w {
         if path.len() <= end {
             return end;
         }
-        path[end] = w[i];
+        path[end] = *b;
         end += 1;
-        i += 1;
     }
     end
 }
@@ -63,42 +73,36 @@ fn difference(a: &[u8], b: &[u8]) -> usize
 }
 
 // Judges the trace of argument i and prints a line. Answers how many reports are the same: 1 or 0.
-fn judge(i: usize) -> u64
-    ensures { result ≤ 1 }
+fn judge(rt: &(impl Env + Files + Print + Eprint), i: usize) -> io::Result<u64>
+    ensures { IfOk result (λ n. n ≤ 1) }
 {
     let mut path = [0u8; 128];
-    let n = os::arg(i, &mut path);
-    io::write_all(STDOUT_FILENO, &path[..n]);
+    // An argument that is longer than the path is taken as an empty one.
+    let n = rt.arg(i, &mut path).unwrap_or(0);
+    rt.write_all(&path[..n])?;
     let mut input = [0u8; 65537];
-    let m = load(&mut path, n, b".trace", &mut input);
+    let m = load(rt, &mut path, n, b".trace", &mut input)?;
     let mut answers = [0u8; 65601];
-    let k = load(&mut path, n, b".answers", &mut answers);
+    let k = load(rt, &mut path, n, b".answers", &mut answers)?;
     let mut out = [0u8; 65600];
     let written = trace::report(&input[..m], &mut out).written;
     let d = difference(&out[..written], &answers[..k]);
     if d == 0 {
-        io::write_all(STDOUT_FILENO, b": same\n");
-        return 1;
+        println!(rt; ": same")?;
+        return Ok(1);
     }
-    io::write_all(STDOUT_FILENO, b": differs at byte ");
-    io::print_decimal(STDOUT_FILENO, d as u64);
-    io::write_all(STDOUT_FILENO, b"\n");
-    0
+    println!(rt; ": differs at byte {d}")?;
+    Ok(0)
 }
 
-fn main() {
-    let count = os::arg_count();
+fn main(rt: HostRuntime) -> io::Result<()> {
+    let count = env::args(&rt)?.len();
     let mut same: u64 = 0;
     let mut different: u64 = 0;
-    let mut i = 1;
-    while i < count {
-        let n = judge(i);
+    for i in 1..count {
+        let n = judge(&rt, i)?;
         same += n;
         different += 1 - n;
-        i += 1;
     }
-    io::print_decimal(STDOUT_FILENO, same);
-    io::write_all(STDOUT_FILENO, b" same, ");
-    io::print_decimal(STDOUT_FILENO, different);
-    io::write_all(STDOUT_FILENO, b" different\n");
+    println!(rt; "{same} same, {different} different")
 }
