@@ -3,12 +3,12 @@
 // number and name. Then a damaged store and a damaged registry are handed to every public call, and each answers 9.
 #![tactic(auto)]
 
-use libc::STDOUT_FILENO;
 use registry::{
     CountAnswer, DomainAnswer, IdAnswer, LeaseAnswer, LeaseIdAnswer, Plain, PublicationAnswer,
     PublicationRegistry, SlotAnswer,
 };
 use rules::{Command, LeaseId, Owner, Port, PublicationId, Response};
+use std::io;
 use store::{
     HandleAnswer, LeasedAnswer, ObserveAnswer, PublicationStore, PublishAnswer, ReadAnswer,
     ReplaceAnswer,
@@ -16,148 +16,144 @@ use store::{
 use writing::inner::{number_of, put_name};
 
 // What was asked, and the answer's number and name.
-fn say(what: &[u8], number: u64) {
-    io::write_all(STDOUT_FILENO, what);
-    io::write_all(STDOUT_FILENO, b": ");
-    io::print_decimal(STDOUT_FILENO, number);
-    io::write_all(STDOUT_FILENO, b" ");
+fn say(rt: &impl Print, what: &[u8], number: u64) -> io::Result<()> {
+    rt.write_all(what)?;
+    print!(rt; ": {number} ")?;
     let mut name = [0u8; 12];
     let n = put_name(&mut name, number);
-    io::write_all(STDOUT_FILENO, &name[..n]);
-    io::write_all(STDOUT_FILENO, b"\n");
+    rt.write_all(&name[..n])?;
+    println!(rt;)
 }
 
-fn value(key: &[u8], n: u64) {
-    io::write_all(STDOUT_FILENO, b"  ");
-    io::write_all(STDOUT_FILENO, key);
-    io::write_all(STDOUT_FILENO, b"=");
-    io::print_decimal(STDOUT_FILENO, n);
-    io::write_all(STDOUT_FILENO, b"\n");
+fn value(rt: &impl Print, key: &[u8], n: u64) -> io::Result<()> {
+    rt.write_all(b"  ")?;
+    rt.write_all(key)?;
+    println!(rt; "={n}")
 }
 
-fn show_plain(what: &[u8], a: Plain) {
+fn show_plain(rt: &impl Print, what: &[u8], a: Plain) -> io::Result<()> {
     match a {
-        Plain::Refused(r) => say(what, number_of(r)),
-        Plain::Done => say(what, 0),
+        Plain::Refused(r) => say(rt, what, number_of(r)),
+        Plain::Done => say(rt, what, 0),
     }
 }
 
-fn show_publish(a: PublishAnswer) {
+fn show_publish(rt: &impl Print, a: PublishAnswer) -> io::Result<()> {
     match a {
         PublishAnswer::Refused(r, h) => {
-            say(b"publish", number_of(r));
-            value(b"handle back", h);
+            say(rt, b"publish", number_of(r))?;
+            value(rt, b"handle back", h)
         }
         PublishAnswer::Id(p) => {
-            say(b"publish", 0);
-            value(b"id", p.0);
+            say(rt, b"publish", 0)?;
+            value(rt, b"id", p.0)
         }
     }
 }
 
-fn show_replace(a: ReplaceAnswer) {
+fn show_replace(rt: &impl Print, a: ReplaceAnswer) -> io::Result<()> {
     match a {
         ReplaceAnswer::Refused(r, h) => {
-            say(b"replace", number_of(r));
-            value(b"handle back", h);
+            say(rt, b"replace", number_of(r))?;
+            value(rt, b"handle back", h)
         }
         ReplaceAnswer::Earlier(h) => {
-            say(b"replace", 0);
-            value(b"payload", h);
+            say(rt, b"replace", 0)?;
+            value(rt, b"payload", h)
         }
     }
 }
 
-fn show_lease(what: &[u8], a: LeaseIdAnswer) {
+fn show_lease(rt: &impl Print, what: &[u8], a: LeaseIdAnswer) -> io::Result<()> {
     match a {
-        LeaseIdAnswer::Refused(r) => say(what, number_of(r)),
+        LeaseIdAnswer::Refused(r) => say(rt, what, number_of(r)),
         LeaseIdAnswer::Id(i) => {
-            say(what, 0);
-            value(b"lease", i.0);
+            say(rt, what, 0)?;
+            value(rt, b"lease", i.0)
         }
     }
 }
 
-fn show_handle(what: &[u8], a: HandleAnswer) {
+fn show_handle(rt: &impl Print, what: &[u8], a: HandleAnswer) -> io::Result<()> {
     match a {
-        HandleAnswer::Refused(r) => say(what, number_of(r)),
+        HandleAnswer::Refused(r) => say(rt, what, number_of(r)),
         HandleAnswer::Handle(h) => {
-            say(what, 0);
-            value(b"payload", h);
+            say(rt, what, 0)?;
+            value(rt, b"payload", h)
         }
     }
 }
 
-fn show_read(a: ReadAnswer) {
+fn show_read(rt: &impl Print, a: ReadAnswer) -> io::Result<()> {
     match a {
-        ReadAnswer::Refused(r) => say(b"leased_observation", number_of(r)),
+        ReadAnswer::Refused(r) => say(rt, b"leased_observation", number_of(r)),
         ReadAnswer::Read(x) => {
-            say(b"leased_observation", 0);
-            value(b"id", x.id.0);
-            value(b"revision", x.revision);
-            value(b"payload", x.handle);
+            say(rt, b"leased_observation", 0)?;
+            value(rt, b"id", x.id.0)?;
+            value(rt, b"revision", x.revision)?;
+            value(rt, b"payload", x.handle)
         }
     }
 }
 
-fn show_observation(a: ObserveAnswer) {
+fn show_observation(rt: &impl Print, a: ObserveAnswer) -> io::Result<()> {
     match a {
-        ObserveAnswer::Refused(r) => say(b"observation", number_of(r)),
+        ObserveAnswer::Refused(r) => say(rt, b"observation", number_of(r)),
         ObserveAnswer::Observed(x) => {
-            say(b"observation", 0);
-            value(b"revision", x.revision);
-            value(b"payload", x.handle);
+            say(rt, b"observation", 0)?;
+            value(rt, b"revision", x.revision)?;
+            value(rt, b"payload", x.handle)
         }
     }
 }
 
-fn show_leased(a: LeasedAnswer) {
+fn show_leased(rt: &impl Print, a: LeasedAnswer) -> io::Result<()> {
     match a {
-        LeasedAnswer::Refused(r) => say(b"leased_value", number_of(r)),
+        LeasedAnswer::Refused(r) => say(rt, b"leased_value", number_of(r)),
         LeasedAnswer::Value(x) => {
-            say(b"leased_value", 0);
-            value(b"id", x.id.0);
-            value(b"payload", x.handle);
+            say(rt, b"leased_value", 0)?;
+            value(rt, b"id", x.id.0)?;
+            value(rt, b"payload", x.handle)
         }
     }
 }
 
-fn show_id(what: &[u8], a: IdAnswer) {
+fn show_id(rt: &impl Print, what: &[u8], a: IdAnswer) -> io::Result<()> {
     match a {
-        IdAnswer::Refused(r) => say(what, number_of(r)),
+        IdAnswer::Refused(r) => say(rt, what, number_of(r)),
         IdAnswer::Id(p) => {
-            say(what, 0);
-            value(b"id", p.0);
+            say(rt, what, 0)?;
+            value(rt, b"id", p.0)
         }
     }
 }
 
-fn show_count(what: &[u8], a: CountAnswer) {
+fn show_count(rt: &impl Print, what: &[u8], a: CountAnswer) -> io::Result<()> {
     match a {
-        CountAnswer::Refused(r) => say(what, number_of(r)),
+        CountAnswer::Refused(r) => say(rt, what, number_of(r)),
         CountAnswer::Count(n) => {
-            say(what, 0);
-            value(b"count", n);
+            say(rt, what, 0)?;
+            value(rt, b"count", n)
         }
     }
 }
 
-fn show_present(a: Plain, present: bool) {
-    show_plain(b"contains_handle", a);
+fn show_present(rt: &impl Print, a: Plain, present: bool) -> io::Result<()> {
+    show_plain(rt, b"contains_handle", a)?;
     if present {
-        io::write_all(STDOUT_FILENO, b"  yes\n");
+        println!(rt; "  yes")
     } else {
-        io::write_all(STDOUT_FILENO, b"  no\n");
+        println!(rt; "  no")
     }
 }
 
 // Whether a response refuses.
-fn show_response(what: &[u8], r: Response) {
+fn show_response(rt: &impl Print, what: &[u8], r: Response) -> io::Result<()> {
     match r {
-        Response::Refused(why) => say(what, number_of(why)),
+        Response::Refused(why) => say(rt, what, number_of(why)),
         Response::Returned(why, h) => {
-            say(what, number_of(why));
-            value(b"handle back", h);
+            say(rt, what, number_of(why))?;
+            value(rt, b"handle back", h)
         }
         Response::Done
         | Response::Id(_)
@@ -165,192 +161,201 @@ fn show_response(what: &[u8], r: Response) {
         | Response::Handle(_)
         | Response::Read(_)
         | Response::Observed(_)
-        | Response::Count(_) => say(what, 0),
+        | Response::Count(_) => say(rt, what, 0),
     }
 }
 
 // A wipe that has to wait for two leases.
-fn one_day() {
+fn one_day(rt: &impl Print) -> io::Result<()> {
     let empty = PublicationStore::new();
     let published = empty.publish(Owner(4), 0, Port(7), 900);
     let answer = published.answer;
-    show_publish(answer);
+    show_publish(rt, answer)?;
     let store = published.store;
     let first = store.acquire_for(PublicationId(0), Owner(5), 1);
     let answer = first.answer;
-    show_lease(b"acquire_for", answer);
+    show_lease(rt, b"acquire_for", answer)?;
     let store = first.store;
     let second = store.acquire_for(PublicationId(0), Owner(6), 1);
     let answer = second.answer;
-    show_lease(b"acquire_for", answer);
+    show_lease(rt, b"acquire_for", answer)?;
     let store = second.store;
-    show_id(b"resolve", store.resolve(Port(7)));
-    show_read(store.leased_observation(LeaseId(0)));
+    show_id(rt, b"resolve", store.resolve(Port(7)))?;
+    show_read(rt, store.leased_observation(LeaseId(0)))?;
     let replaced = store.replace(PublicationId(0), Owner(4), 0, 901);
     let answer = replaced.answer;
-    show_replace(answer);
+    show_replace(rt, answer)?;
     let store = replaced.store;
-    show_read(store.leased_observation(LeaseId(1)));
-    wipe(store);
+    show_read(rt, store.leased_observation(LeaseId(1)))?;
+    wipe(rt, store)
 }
 
 // The wipe: revoked, reclaimed too early, drained, reclaimed.
-fn wipe(store: PublicationStore) {
+fn wipe(rt: &impl Print, store: PublicationStore) -> io::Result<()> {
     let revoked = store.revoke(PublicationId(0));
     let answer = revoked.answer;
-    show_plain(b"revoke", answer);
+    show_plain(rt, b"revoke", answer)?;
     let store = revoked.store;
-    show_id(b"resolve", store.resolve(Port(7)));
-    let store = reclaim(store);
-    let store = release(store, LeaseId(0));
-    let store = reclaim(store);
-    let store = release(store, LeaseId(1));
-    let store = reclaim(store);
-    let store = reclaim(store);
-    show_count(b"retained_count", store.retained_count());
+    show_id(rt, b"resolve", store.resolve(Port(7)))?;
+    let store = reclaim(rt, store)?;
+    let store = release(rt, store, LeaseId(0))?;
+    let store = reclaim(rt, store)?;
+    let store = release(rt, store, LeaseId(1))?;
+    let store = reclaim(rt, store)?;
+    let store = reclaim(rt, store)?;
+    show_count(rt, b"retained_count", store.retained_count())
 }
 
-fn reclaim(store: PublicationStore) -> PublicationStore {
+fn reclaim(rt: &impl Print, store: PublicationStore) -> io::Result<PublicationStore> {
     let out = store.reclaim(PublicationId(0));
     let answer = out.answer;
-    show_handle(b"reclaim", answer);
-    out.store
+    show_handle(rt, b"reclaim", answer)?;
+    Ok(out.store)
 }
 
-fn release(store: PublicationStore, lease: LeaseId) -> PublicationStore {
+fn release(
+    rt: &impl Print,
+    store: PublicationStore,
+    lease: LeaseId,
+) -> io::Result<PublicationStore> {
     let out = store.release(lease);
     let answer = out.answer;
-    show_plain(b"release", answer);
-    out.store
+    show_plain(rt, b"release", answer)?;
+    Ok(out.store)
 }
 
 // A store with a handle in a cell that is not in use, handed to every public call: first the commands.
-fn damaged_commands(damaged: PublicationStore) {
+fn damaged_commands(rt: &impl Print, damaged: PublicationStore) -> io::Result<()> {
     let published = damaged.publish(Owner(4), 0, Port(7), 970);
     let answer = published.answer;
-    show_publish(answer);
+    show_publish(rt, answer)?;
     let store = published.store;
-    value(b"payload in the last cell", store.payloads[95]);
+    value(rt, b"payload in the last cell", store.payloads[95])?;
     let replaced = damaged.replace(PublicationId(0), Owner(4), 0, 971);
     let answer = replaced.answer;
-    show_replace(answer);
+    show_replace(rt, answer)?;
     let revoked = damaged.revoke(PublicationId(0));
     let answer = revoked.answer;
-    show_plain(b"revoke", answer);
+    show_plain(rt, b"revoke", answer)?;
     let acquired = damaged.acquire_for(PublicationId(0), Owner(5), 1);
     let answer = acquired.answer;
-    show_lease(b"acquire_for", answer);
+    show_lease(rt, b"acquire_for", answer)?;
     let adopted = damaged.adopt(PublicationId(0), Owner(4), 1);
     let answer = adopted.answer;
-    show_plain(b"adopt", answer);
-    release(damaged, LeaseId(0));
-    reclaim(damaged);
+    show_plain(rt, b"adopt", answer)?;
+    release(rt, damaged, LeaseId(0))?;
+    reclaim(rt, damaged)?;
     let applied = damaged.apply(Command::Count);
     let response = applied.response;
-    show_response(b"apply", response);
+    show_response(rt, b"apply", response)
 }
 
 // .. then the queries.
-fn damaged_queries(damaged: PublicationStore) {
+fn damaged_queries(rt: &impl Print, damaged: PublicationStore) -> io::Result<()> {
     let copy = damaged.registry();
     let answer = copy.answer;
-    show_plain(b"registry", answer);
-    show_handle(b"value", damaged.value(PublicationId(0)));
-    show_observation(damaged.observation(PublicationId(0)));
-    show_leased(damaged.leased_value(LeaseId(0)));
-    show_read(damaged.leased_observation(LeaseId(0)));
-    show_count(b"retained_count", damaged.retained_count());
+    show_plain(rt, b"registry", answer)?;
+    show_handle(rt, b"value", damaged.value(PublicationId(0)))?;
+    show_observation(rt, damaged.observation(PublicationId(0)))?;
+    show_leased(rt, damaged.leased_value(LeaseId(0)))?;
+    show_read(rt, damaged.leased_observation(LeaseId(0)))?;
+    show_count(rt, b"retained_count", damaged.retained_count())?;
     let contained = damaged.contains_handle(900);
     let answer = contained.answer;
-    show_present(answer, contained.present);
-    show_id(b"resolve", damaged.resolve(Port(7)));
+    show_present(rt, answer, contained.present)?;
+    show_id(rt, b"resolve", damaged.resolve(Port(7)))
 }
 
-fn show_slot(what: &[u8], a: SlotAnswer) {
+fn show_slot(rt: &impl Print, what: &[u8], a: SlotAnswer) -> io::Result<()> {
     match a {
-        SlotAnswer::Refused(r) => say(what, number_of(r)),
+        SlotAnswer::Refused(r) => say(rt, what, number_of(r)),
         SlotAnswer::Slot(s) => {
-            say(what, 0);
-            value(b"slot", s);
+            say(rt, what, 0)?;
+            value(rt, b"slot", s)
         }
     }
 }
 
-fn show_publication(a: PublicationAnswer) {
+fn show_publication(rt: &impl Print, a: PublicationAnswer) -> io::Result<()> {
     match a {
-        PublicationAnswer::Refused(r) => say(b"entry", number_of(r)),
-        PublicationAnswer::Record(_) => say(b"entry", 0),
+        PublicationAnswer::Refused(r) => say(rt, b"entry", number_of(r)),
+        PublicationAnswer::Record(_) => say(rt, b"entry", 0),
     }
 }
 
-fn show_lease_record(a: LeaseAnswer) {
+fn show_lease_record(rt: &impl Print, a: LeaseAnswer) -> io::Result<()> {
     match a {
-        LeaseAnswer::Refused(r) => say(b"lease", number_of(r)),
-        LeaseAnswer::Record(_) => say(b"lease", 0),
+        LeaseAnswer::Refused(r) => say(rt, b"lease", number_of(r)),
+        LeaseAnswer::Record(_) => say(rt, b"lease", 0),
     }
 }
 
-fn show_domain(a: DomainAnswer) {
+fn show_domain(rt: &impl Print, a: DomainAnswer) -> io::Result<()> {
     match a {
-        DomainAnswer::Refused(r) => say(b"domain", number_of(r)),
-        DomainAnswer::Is(_) => say(b"domain", 0),
+        DomainAnswer::Refused(r) => say(rt, b"domain", number_of(r)),
+        DomainAnswer::Is(_) => say(rt, b"domain", 0),
     }
 }
 
 // A registry whose counter is below its active leases, handed to every public call: the queries ..
-fn damaged_registry_queries(damaged: PublicationRegistry) {
-    show_domain(damaged.domain());
-    show_count(b"publication_records", damaged.publication_records());
-    show_count(b"lease_record_count", damaged.lease_record_count());
-    show_count(b"lease_allocation_count", damaged.lease_allocation_count());
-    show_publication(damaged.entry(PublicationId(0)));
-    show_lease_record(damaged.lease(LeaseId(0)));
-    show_id(b"resolve", damaged.resolve(Port(7)));
+fn damaged_registry_queries(rt: &impl Print, damaged: PublicationRegistry) -> io::Result<()> {
+    show_domain(rt, damaged.domain())?;
+    show_count(rt, b"publication_records", damaged.publication_records())?;
+    show_count(rt, b"lease_record_count", damaged.lease_record_count())?;
+    show_count(
+        rt,
+        b"lease_allocation_count",
+        damaged.lease_allocation_count(),
+    )?;
+    show_publication(rt, damaged.entry(PublicationId(0)))?;
+    show_lease_record(rt, damaged.lease(LeaseId(0)))?;
+    show_id(rt, b"resolve", damaged.resolve(Port(7)))?;
     show_plain(
+        rt,
         b"can_adopt",
         damaged.can_adopt(PublicationId(0), Owner(4), 1),
-    );
-    show_plain(b"check_lease_capacity", damaged.check_lease_capacity(1));
-    show_slot(b"leased_slot", damaged.leased_slot(LeaseId(0)));
+    )?;
+    show_plain(rt, b"check_lease_capacity", damaged.check_lease_capacity(1))?;
+    show_slot(rt, b"leased_slot", damaged.leased_slot(LeaseId(0)))
 }
 
 // .. and the commands.
-fn damaged_registry_commands(damaged: PublicationRegistry) {
+fn damaged_registry_commands(rt: &impl Print, damaged: PublicationRegistry) -> io::Result<()> {
     let published = damaged.publish(Owner(4), 0, Port(7), 0);
     let answer = published.answer;
-    show_id(b"publish", answer);
+    show_id(rt, b"publish", answer)?;
     let adopted = damaged.adopt(PublicationId(0), Owner(4), 1);
     let answer = adopted.answer;
-    show_plain(b"adopt", answer);
+    show_plain(rt, b"adopt", answer)?;
     let acquired = damaged.acquire(PublicationId(0));
     let answer = acquired.answer;
-    show_lease(b"acquire", answer);
+    show_lease(rt, b"acquire", answer)?;
     let acquired = damaged.acquire_for(PublicationId(0), Owner(5), 1);
     let answer = acquired.answer;
-    show_lease(b"acquire_for", answer);
+    show_lease(rt, b"acquire_for", answer)?;
     let released = damaged.release(LeaseId(0));
     let answer = released.answer;
-    show_plain(b"release", answer);
+    show_plain(rt, b"release", answer)?;
     let revoked = damaged.revoke(PublicationId(0));
     let answer = revoked.answer;
-    show_plain(b"revoke", answer);
+    show_plain(rt, b"revoke", answer)?;
     let reclaimed = damaged.reclaim(PublicationId(0));
     let answer = reclaimed.answer;
-    show_slot(b"reclaim", answer);
+    show_slot(rt, b"reclaim", answer)?;
     let same = reclaimed.registry;
-    value(b"active leases", same.active as u64);
+    value(rt, b"active leases", same.active as u64)
 }
 
-fn main() {
-    one_day();
-    io::write_all(STDOUT_FILENO, b"a damaged store\n");
+fn main(rt: HostRuntime) -> io::Result<()> {
+    one_day(&rt)?;
+    println!(rt; "a damaged store")?;
     let mut damaged = PublicationStore::new();
     damaged.payloads[95] = 900;
-    damaged_commands(damaged);
-    damaged_queries(damaged);
-    io::write_all(STDOUT_FILENO, b"a damaged registry\n");
+    damaged_commands(&rt, damaged)?;
+    damaged_queries(&rt, damaged)?;
+    println!(rt; "a damaged registry")?;
     let mut registry = PublicationRegistry::new();
     registry.active = 1;
-    damaged_registry_queries(registry);
-    damaged_registry_commands(registry);
+    damaged_registry_queries(&rt, registry)?;
+    damaged_registry_commands(&rt, registry)
 }
