@@ -3,6 +3,7 @@ use crate::line::{put, put_named, put_number, write};
 use crate::told::{answered, asked};
 use blocks::{Block, block_at};
 use rules::{Command, Response};
+use std::io;
 use store::PublicationStore;
 use text::key_code;
 
@@ -39,18 +40,15 @@ fn put_word(line: &mut [u8; 256], at: usize, row: usize) -> usize {
         return at;
     }
     let mut end = at;
-    let mut k = 0;
-    while k < 11 {
+    for b in WORDS[row] {
         if 256 <= end {
             return end;
         }
-        let b = WORDS[row][k];
         line[end] = b;
         end += 1;
         if b == b' ' {
             return end;
         }
-        k += 1;
     }
     end
 }
@@ -69,8 +67,7 @@ fn put_pairs(
     values: [u64; 5],
 ) -> usize {
     let mut end = at;
-    let mut k = 0;
-    while k < 5 {
+    for k in 0..5 {
         let code = keys[k];
         if code == 0 {
             return end;
@@ -82,7 +79,6 @@ fn put_pairs(
         }
         end = put_key(line, end, code);
         end = put_number(line, end, values[k]);
-        k += 1;
     }
     end
 }
@@ -118,7 +114,12 @@ fn put_answer(line: &mut [u8; 256], at: usize, response: Response) -> usize {
 }
 
 // The line of one block. Its number is right-aligned in three columns, and takes more where it is wider.
-fn tell_block(number: u64, command: Command, response: Response) -> bool {
+fn tell_block(
+    rt: &impl Print,
+    number: u64,
+    command: Command,
+    response: Response,
+) -> io::Result<()> {
     let mut line = [b' '; 256];
     let mut at: usize = 0;
     if number < 100 {
@@ -135,28 +136,24 @@ fn tell_block(number: u64, command: Command, response: Response) -> bool {
         answer = ANSWER;
     }
     let e = put_answer(&mut line, answer, response);
-    write(line, e)
+    write(rt, line, e)
 }
 
-// The blocks that a trace's run did, so many from its start, with their answers on an empty store. Answers false where a line can't be written.
-pub(crate) fn tell_blocks(trace: &[u8], blocks: u64) -> bool {
+// The blocks that a trace's run did, so many from its start, with their answers on an empty store.
+pub(crate) fn tell_blocks(rt: &impl Print, trace: &[u8], blocks: u64) -> io::Result<()> {
     let mut store = PublicationStore::new();
     let mut i: usize = 0;
-    let mut number: u64 = 0;
-    while number < blocks {
+    for done in 0..blocks {
         // The run has read this block: it is there.
         let Block::Got(command, next) = block_at(trace, i) else {
-            return true;
+            return Ok(());
         };
         let applied = store.apply(command);
         let response = applied.response;
         let after = applied.store;
-        number += 1;
-        if !tell_block(number, command, response) {
-            return false;
-        }
+        tell_block(rt, done + 1, command, response)?;
         store = after;
         i = next;
     }
-    true
+    Ok(())
 }

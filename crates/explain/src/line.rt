@@ -1,18 +1,17 @@
 // One line of text: 256 bytes, blank at first, and the place after what was put. A place further on leaves blanks before it.
 // Text that would pass the line's end is left out, and the line is then not written; every line told here fits.
-use libc::STDOUT_FILENO;
+use std::io;
+use std::io::ErrorKind;
 
 // Puts w at a place, and answers the place after it.
 pub(crate) fn put(line: &mut [u8; 256], at: usize, w: &[u8]) -> usize {
     let mut end = at;
-    let mut i = 0;
-    while i < w.len() {
+    for b in w {
         if 256 <= end {
             return end;
         }
-        line[end] = w[i];
+        line[end] = *b;
         end += 1;
-        i += 1;
     }
     end
 }
@@ -20,7 +19,7 @@ pub(crate) fn put(line: &mut [u8; 256], at: usize, w: &[u8]) -> usize {
 // The digits of n, with no leading zeros.
 pub(crate) fn put_number(line: &mut [u8; 256], at: usize, n: u64) -> usize {
     let mut digits = [0u8; 20];
-    let k = io::decimal(n, &mut digits);
+    let k = writing::inner::put_number(&mut digits, n);
     put(line, at, &digits[..k])
 }
 
@@ -51,13 +50,13 @@ pub(crate) fn put_counted(
     put(line, c, b"s")
 }
 
-// Writes the line up to a place, and a line feed. Answers false where it can't be written, or doesn't fit.
-pub(crate) fn write(line: [u8; 256], at: usize) -> bool {
+// Writes the line up to a place, and a line feed. Fails where it can't be written, or doesn't fit.
+pub(crate) fn write(rt: &impl Print, line: [u8; 256], at: usize) -> io::Result<()> {
     if 256 <= at {
-        return false;
+        return Err(io::Error::new(ErrorKind::WriteZero, "the line is too long"));
     }
     let mut whole = line;
     whole[at] = b'\n';
     let end = at + 1;
-    io::write_all(STDOUT_FILENO, &whole[..end])
+    rt.write_all(&whole[..end])
 }

@@ -13,7 +13,7 @@ ghost use Rattle.trace.specs.Run.{laid};
 ghost use Rattle.trace.specs.Embedding.{stopped_of};
 ghost use Rattle.explain.specs.Told.{told_run};
 
-use libc::{STDERR_FILENO, STDIN_FILENO, STDOUT_FILENO};
+use std::io;
 use store::PublicationStore;
 use trace::Stopped;
 
@@ -36,37 +36,25 @@ fn run(input: &[u8]) -> Stopped
     trace::run(store, input, &mut out)
 }
 
-// Tells the run of a trace. Answers false where it can't be written.
-fn explain(input: &[u8]) -> bool {
+// Tells the run of a trace.
+fn explain(rt: &impl Print, input: &[u8]) -> io::Result<()> {
     let r = run(input);
     // The head of the blocks' columns.
-    if !io::write_all(
-        STDOUT_FILENO,
-        b" no  command                                                     answer\n",
-    ) {
-        return false;
-    }
-    if !commands::tell_blocks(input, r.blocks) {
-        return false;
-    }
-    if !io::write_all(STDOUT_FILENO, b"\n") {
-        return false;
-    }
-    if !ending::tell_stop(r.stop, r.blocks, r.read) {
-        return false;
-    }
+    println!(rt; " no  command                                                     answer")?;
+    commands::tell_blocks(rt, input, r.blocks)?;
+    println!(rt;)?;
+    ending::tell_stop(rt, r.stop, r.blocks, r.read)?;
     let store = r.store;
-    ending::tell_retained(store)
+    ending::tell_retained(rt, store)
 }
 
-fn main() {
+fn main(rt: HostRuntime) -> io::Result<()> {
     // One byte more than a trace may have, so that longer input is noticed.
     let mut input = [0u8; 65537];
-    let n = io::read_full(STDIN_FILENO, &mut input);
-    if !explain(&input[..n]) {
-        io::write_all(
-            STDERR_FILENO,
-            b"explain: the explanation can't be written\n",
-        );
+    let n = intake::read_full(&mut rt.stdin(), &mut input)?;
+    let told = explain(&rt, &input[..n]);
+    if told.is_err() {
+        eprintln!(rt; "explain: the explanation can't be written")?;
     }
+    told
 }
