@@ -159,15 +159,13 @@ fn with_page(mut h: History, id: u64, page: Page) -> History {
 
 // Where a handle stands among the first of the bag; 128 if it isn't there.
 fn place(bag: [u64; 128], held: usize, handle: u64) -> usize {
-    let mut i: usize = 0;
-    while i < 128 {
+    for i in 0..128 {
         if held <= i {
             return 128;
         }
         if bag[i] == handle {
             return i;
         }
-        i += 1;
     }
     128
 }
@@ -316,12 +314,12 @@ fn lent(mut h: History, id: u64, lease: u64) -> History {
     if lease < 160 {
         let l = lease as usize;
         h.loans[l] = Loan {
-            of: std::num::wrapping_add_u64(id, 1),
+            of: id.wrapping_add(1),
             since: h.time,
         };
     }
     let mut p = page_of(h, id);
-    p.out = std::num::wrapping_add_u64(p.out, 1);
+    p.out = p.out.wrapping_add(1);
     with_page(h, id, p)
 }
 
@@ -334,7 +332,7 @@ fn freed(mut h: History, lease: u64) -> History {
     let loan = h.loans[l];
     h.loans[l] = Loan { of: 0, since: 0 };
     // For a lease that was not out, this is no publication.
-    let id = std::num::wrapping_sub_u64(loan.of, 1);
+    let id = loan.of.wrapping_sub(1);
     let mut p = page_of(h, id);
     p.out = less(p.out);
     if loan.since < p.revoked {
@@ -347,7 +345,7 @@ fn freed(mut h: History, lease: u64) -> History {
 pub(crate) fn noted(mut h: History, q: Asked, t: Told) -> History {
     let op = q.op;
     let id = q.a;
-    h.time = std::num::wrapping_add_u64(h.time, 1);
+    h.time = h.time.wrapping_add(1);
     if t.number != 0 {
         return h;
     }
@@ -374,7 +372,7 @@ pub(crate) fn noted(mut h: History, q: Asked, t: Told) -> History {
         // A handle is handed back, and another accepted.
         REPLACE => {
             p.handle = q.d;
-            p.replaced = std::num::wrapping_add_u64(p.replaced, 1);
+            p.replaced = p.replaced.wrapping_add(1);
             took(gave(with_page(h, id, p), t.x), q.d)
         }
         // A handle is handed back, and the publication ends.

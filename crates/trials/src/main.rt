@@ -6,6 +6,7 @@
 
 use broken::Fault;
 use rules::Response;
+use std::io;
 use store::PublicationStore;
 use traces::{Asked, Told};
 use writing::inner::number_of;
@@ -102,8 +103,8 @@ fn judged(t: Trial, store: PublicationStore, demand: u64, step: traces::Step, to
         store: store,
         history: checker::noted(history, asked, told),
         trace: t.trace,
-        place: std::num::wrapping_add_u64(t.place, 1),
-        judged: std::num::wrapping_add_u64(t.judged, 1),
+        place: t.place.wrapping_add(1),
+        judged: t.judged.wrapping_add(1),
         broken: !checker::same(told, due),
         asked: asked,
         told: told,
@@ -113,8 +114,7 @@ fn judged(t: Trial, store: PublicationStore, demand: u64, step: traces::Step, to
 
 // A row of the traces, as often as it is to be played: never more than 128 times.
 fn row(mut t: Trial, fault: Fault, demand: u64, at: usize) -> Trial {
-    let mut n: u64 = 0;
-    while n < 128 {
+    for n in 0..128 {
         let step = traces::step_at(at, n);
         if step.times <= n {
             return t;
@@ -123,7 +123,6 @@ fn row(mut t: Trial, fault: Fault, demand: u64, at: usize) -> Trial {
             return t;
         }
         t = turn(at_trace(t, step.trace), fault, demand, step);
-        n += 1;
     }
     t
 }
@@ -131,94 +130,87 @@ fn row(mut t: Trial, fault: Fault, demand: u64, at: usize) -> Trial {
 // All traces.
 fn tried(fault: Fault, demand: u64) -> Trial {
     let mut t = start();
-    let mut i: usize = 0;
-    while i < traces::ROWS {
+    for i in 0..traces::ROWS {
         t = row(t, fault, demand, i);
-        i += 1;
     }
     t
 }
 
 // A demand's line. Answers how many commands kept it; 0 if it is broken.
-fn line(fault: Fault, demand: u64) -> u64 {
+fn line(rt: &impl Print, fault: Fault, demand: u64) -> io::Result<u64> {
     let t = tried(fault, demand);
     if t.broken {
         let asked = t.asked;
         let told = t.told;
         let due = t.due;
-        report::broken(demand, t.trace, t.place, asked, told, due);
-        return 0;
+        report::broken(rt, demand, t.trace, t.place, asked, told, due)?;
+        return Ok(0);
     }
-    report::kept(demand);
-    t.judged
+    report::kept(rt, demand)?;
+    Ok(t.judged)
 }
 
 // A broker's three lines.
-fn show(name: &[u8], fault: Fault) {
-    report::word(0, name);
-    report::word(0, b"\n");
-    let first = line(fault, 1);
-    let second = line(fault, 2);
-    let third = line(fault, 3);
+fn show(rt: &impl Print, name: &str, fault: Fault) -> io::Result<()> {
+    println!(rt; "{name}")?;
+    let first = line(rt, fault, 1)?;
+    let second = line(rt, fault, 2)?;
+    let third = line(rt, fault, 3)?;
     if first == 0 {
-        return;
+        return Ok(());
     }
     if second == 0 {
-        return;
+        return Ok(());
     }
     if third == 0 {
-        return;
+        return Ok(());
     }
-    report::number(report::word(0, b"  keeps all three: "), third);
-    report::word(0, b" commands judged\n");
+    println!(rt; "  keeps all three: {third} commands judged")
 }
 
-fn head() {
-    report::word(
-        0,
-        b"Our broker and nine broken ones play the same 13 traces. One checker, the same for all, reads each command and its answer.\n",
-    );
-    report::word(
-        0,
-        b"Demand 1: an answer of the command's kind; a refusal has a number of the command's row, and the offered handle comes back with it.\n",
-    );
-    report::word(0, b"Demand 2: the answer that document 01 fixes.\n");
-    report::word(
-        0,
-        b"Demand 3: by the history of answers: Relied until the leases are back, then the handle last accepted; the ledger; the count.\n\n",
-    );
-    report::word(
-        0,
-        b"demand  verdict trace          no.  command                                          answered                     must be\n",
-    );
+fn head(rt: &impl Print) -> io::Result<()> {
+    println!(rt;
+        "Our broker and nine broken ones play the same 13 traces. One checker, the same for all, reads each command and its answer."
+    )?;
+    println!(rt;
+        "Demand 1: an answer of the command's kind; a refusal has a number of the command's row, and the offered handle comes back with it."
+    )?;
+    println!(rt; "Demand 2: the answer that document 01 fixes.")?;
+    println!(rt;
+        "Demand 3: by the history of answers: Relied until the leases are back, then the handle last accepted; the ledger; the count.\n"
+    )?;
+    println!(rt;
+        "demand  verdict trace          no.  command                                          answered                     must be"
+    )
 }
 
-fn main() {
-    head();
-    show(b"ours", Fault::Nobody);
-    show(b"refuses everything", Fault::RefusesEverything);
-    show(b"hands back the same handle", Fault::SameHandle);
-    show(b"release does nothing", Fault::KeepsLeases);
-    show(b"release drops all leases", Fault::DropsLeases);
-    show(b"invents the count", Fault::InventsCount);
+fn main(rt: HostRuntime) -> io::Result<()> {
+    head(&rt)?;
+    show(&rt, "ours", Fault::Nobody)?;
+    show(&rt, "refuses everything", Fault::RefusesEverything)?;
+    show(&rt, "hands back the same handle", Fault::SameHandle)?;
+    show(&rt, "release does nothing", Fault::KeepsLeases)?;
+    show(&rt, "release drops all leases", Fault::DropsLeases)?;
+    show(&rt, "invents the count", Fault::InventsCount)?;
     show(
-        b"tests the port against retained publications",
+        &rt,
+        "tests the port against retained publications",
         Fault::TestsRetained,
-    );
+    )?;
     show(
-        b"answers 6 for a lease never given out",
+        &rt,
+        "answers 6 for a lease never given out",
         Fault::SixForNeverGiven,
-    );
+    )?;
     show(
-        b"leaves the handle in a reclaimed cell",
+        &rt,
+        "leaves the handle in a reclaimed cell",
         Fault::LeavesHandle,
-    );
-    report::word(
-        0,
-        b"  The test of the table shows it (S5): without that test no answer would.\n",
-    );
+    )?;
+    println!(rt; "  The test of the table shows it (S5): without that test no answer would.")?;
     show(
-        b"hands back another handle when it refuses a publish",
+        &rt,
+        "hands back another handle when it refuses a publish",
         Fault::OtherHandleBack,
-    );
+    )
 }

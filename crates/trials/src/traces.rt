@@ -291,8 +291,8 @@ pub(crate) fn step_at(row: usize, turn: u64) -> Step {
     let mut c = r[5];
     let mut d = r[6];
     if op == PUBLISH {
-        c = std::num::wrapping_add_u64(c, turn);
-        d = std::num::wrapping_add_u64(d, turn);
+        c = c.wrapping_add(turn);
+        d = d.wrapping_add(turn);
     }
     let number = r[7];
     let asked = Asked {
@@ -305,7 +305,7 @@ pub(crate) fn step_at(row: usize, turn: u64) -> Step {
     let fixed = Told {
         form: form_of(op, number),
         number: number,
-        x: std::num::wrapping_add_u64(r[8], turn),
+        x: r[8].wrapping_add(turn),
         y: r[9],
         z: r[10],
     };
