@@ -201,15 +201,13 @@ fn tests_retained(store: PublicationStore, command: Command) -> Applied {
 
 // Whether a retained publication has the port, visible or not.
 fn occupied(store: PublicationStore, port: Port) -> bool {
-    let mut i: usize = 0;
-    while i < 96 {
+    for i in 0..96 {
         let e = store.publications[i];
         if e.retained {
             if e.port.0 == port.0 {
                 return true;
             }
         }
-        i += 1;
     }
     false
 }
