@@ -41,13 +41,10 @@ fn leases_on(leases: [Lease; 128], active: usize, id: PublicationId) -> u64
     ensures { result ≡ how_many (names id) (take active leases) }
 {
     let mut n: u64 = 0;
-    let mut i: usize = 0;
-    while i < active {
-        let l = leases[i];
-        if names_publication(l, id) {
+    for i in 0..active {
+        if names_publication(leases[i], id) {
             n += 1;
         }
-        i += 1;
     }
     n
 }

@@ -56,18 +56,16 @@ fn put_after(path: &mut [u8], n: usize, w: &[u8]) -> usize
 fn difference(a: &[u8], b: &[u8]) -> usize
     ensures { result ≡ 0 → a.now ≡ b.now }
 {
-    let mut i = 0;
-    while i < a.len() {
+    for i in 0..a.len() {
         if b.len() <= i {
             return i + 1;
         }
         if a[i] != b[i] {
             return i + 1;
         }
-        i += 1;
     }
-    if i < b.len() {
-        return i + 1;
+    if a.len() < b.len() {
+        return a.len() + 1;
     }
     0
 }
