@@ -1,5 +1,5 @@
 -- What the loop of `difference` keeps: the bytes before this turn's are the same in both.
-use Rattle.std.proofs.Common.{◌≡◌, ◌≤◌, length, take}
+use Rattle.std.proofs.Common.{◌≡◌, take}
 use Rattle.vectors.proofs.difference.Given as goal
 
 abbrev pub invariant-loop-i : goal.invariant-loop-i

@@ -12,9 +12,9 @@ loop-i-preserved c =
     record { within = omega arith; fits = c.requires; long = search (rules, length-of_map); told = c.loop-i.invariant.0; few = c.loop-i.invariant.1 } in
     let e = sym c.names_publication.ensures in
     let t =
-        count_on s _ c.loop-i-test.true
-        (elim c.if-names_publication.branch [
-          then-names_publication w ↦ inl (e ∙ w.if-names_publication.true, w.n-is)
-        | else-names_publication w ↦ inr (e ∙ w.if-names_publication.false, w.n-is)
-        ]) in
+    count_on s _ c.loop-i-test.true
+    (elim c.if-names_publication.branch [
+      | then-names_publication w ↦ inl (e ∙ w.if-names_publication.true, w.n-is)
+      | else-names_publication w ↦ inr (e ∙ w.if-names_publication.false, w.n-is)
+    ]) in
     (t.told, t.few)
