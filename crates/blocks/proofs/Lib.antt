@@ -8,3 +8,4 @@ pub mod Answers
 pub mod AnswerTurns
 pub mod LinesApart
 pub mod AnswersApart
+pub mod Build

@@ -8,3 +8,4 @@ pub mod Findings
 pub mod StoreFindings
 pub mod Effects
 pub mod Passes
+pub mod Build

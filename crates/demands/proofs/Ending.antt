@@ -28,6 +28,7 @@ use borrow.Fn.Kinds.{res_t, sig_of, ended_of, stays}
 use borrow.Fn.Plain.{Known}
 use borrow.Fn.Run.{Over}
 use borrow.Fn.World.{World}
+use Rattle.demands.specs.Built.{built}
 use Rattle.demands.specs.Ends.{Entry, Held, MadeOn, arguments, Begins, CameBack, AsksNothing, Total}
 
 -- the machine on which the calls mean γ
@@ -116,7 +117,7 @@ module _ (f : Entry) (γ : Env) (known : KnownAs f γ) (nothing : AsksNothing f)
 -- from the theorem of the function, as a caller knows it
 pub total : {f : Entry} {Met : World → Routine → Type 1}
     → ((w : World) (γ : Env) (name : Callee) (r : Routine) → γ name ≡ r → Met w r → Known w.𝓛 (Over w.𝓛 w.𝓜 w.𝓡 γ) f.lifetimes f.parameters f.result f.asks f.promises name)
-    → ((γ : Env) → Wired γ f.code → Met (world γ) (γ f.name)) → AsksNothing f
+    → ((γ : Env) → Wired γ f.code → Met (world γ) (γ f.name)) → AsksNothing f → Wired built f.code
     → Total f
-total {f} known met nothing =
-    record { asks_nothing = nothing; ends = λ γ wired. comes_back f γ (known (world γ) γ f.name (γ f.name) refl (met γ wired)) nothing }
+total {f} known met nothing stands =
+    record { asks_nothing = nothing; ends = λ γ wired. comes_back f γ (known (world γ) γ f.name (γ f.name) refl (met γ wired)) nothing; stands = stands }

@@ -1,3 +1,4 @@
+pub mod Standing
 pub mod Ending
 pub mod EntryPoints
 pub mod SameAnswers

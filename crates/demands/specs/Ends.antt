@@ -19,6 +19,7 @@ use prog.Memory.{Memory}
 use prog.Routine.{Callee, Env, step}
 use prog.Wired.{Code, Wired}
 use borrow.Fn.Kinds.{ParamKind, ResultKind, In, Out, Dens, res_t, sig_of, ended_of}
+use Rattle.demands.specs.Built.{built}
 
 -- a public call: its references' lifetimes, its parameters, its result, what its contract asks and promises, and what the machine runs: its code,
 -- with the code of all that it calls, by its name
@@ -72,3 +73,5 @@ module _ (f : Entry) where
   pub record Total : Type 2 where
     pub asks_nothing : AsksNothing
     pub ends : Ends
+    -- the crates as they are built are such an environment
+    pub stands : Wired built f.code

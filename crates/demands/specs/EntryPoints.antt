@@ -29,6 +29,7 @@ use Rattle.reader.proofs as reader
 use Rattle.reader.specs.contracts as contracts
 use Rattle.trace.proofs as trace
 use Rattle.embed.proofs as embed
+use Rattle.demands.specs.Built.{built}
 use Rattle.demands.specs.Ends.{Entry, Held, Total}
 
 abbrev pub entry : {n : ℕ} (ps : List (ParamKind n)) (r : ResultKind n) → In n ps → Out n ps r → Code → Callee → Entry
@@ -183,6 +184,7 @@ module _ (f : ReaderEntry) where
   pub record ReaderTotal : Type 2 where
     pub asks_nothing : ReaderAsksNothing
     pub ends : (γ : Env) → Wired γ f.code → (x : CalledOn) (σ : Memory) (rest : Held) → ReaderBegins x σ rest → ∥ Answered γ x σ rest ∥₁
+    pub stands : Wired built f.code
 
 abbrev pub reader_new : ReaderEntry
 reader_new =

@@ -1,2 +1,3 @@
 -- What the proofs of the exported functions use.
 mod Handed
+pub mod Build

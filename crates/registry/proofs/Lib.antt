@@ -3,3 +3,4 @@ pub mod Publishing
 pub mod Changing
 pub mod Leasing
 pub mod Releasing
+pub mod Build

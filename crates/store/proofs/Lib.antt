@@ -7,3 +7,4 @@ pub mod Leasing
 pub mod Reading
 pub mod Counting
 pub mod Applying
+pub mod Build

@@ -13,3 +13,4 @@ pub mod WordTurns
 pub mod OpTurns
 pub mod LineTurns
 pub mod Cases
+pub mod Build

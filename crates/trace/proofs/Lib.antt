@@ -5,3 +5,4 @@ pub mod Followed
 pub mod Counting
 pub mod StopLine
 pub mod Reports
+pub mod Build

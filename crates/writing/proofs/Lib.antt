@@ -3,3 +3,4 @@ pub mod Lines
 pub mod Names
 pub mod Keys
 pub mod NumberTurns
+pub mod Build
