@@ -1,5 +1,5 @@
 /* The lease broker's run, its report and the names of its numbers, for programs in C. Link target/staticlib/libembed.a, which
- * `rt staticlib embed` writes; docs/EMBEDDING.md says how, and what a call costs.
+ * examples/c/run writes; docs/EMBEDDING.md says how, and what a call costs.
  *
  * Each call answers every argument that keeps the following, and no contract holds of one that doesn't: nothing tests it.
  * - A pointer that stands before a length is valid for that many bytes. With the length 0 it is not looked at, and may be null.

@@ -2,12 +2,12 @@
 use crate::traces::{Asked, HANDLE, ID, LEASE, NUMBER, OBSERVED, READING, RETURNED, Told};
 use std::io;
 
-fn word(rt: &impl Print, at: u64, w: &[u8]) -> io::Result<u64> {
+pub(crate) fn word(rt: &impl Print, at: u64, w: &[u8]) -> io::Result<u64> {
     rt.write_all(w)?;
     Ok(at.wrapping_add(w.len() as u64))
 }
 
-fn number(rt: &impl Print, at: u64, n: u64) -> io::Result<u64> {
+pub(crate) fn number(rt: &impl Print, at: u64, n: u64) -> io::Result<u64> {
     let mut text = [0u8; 20];
     let k = writing::inner::put_number(&mut text, n);
     word(rt, at, &text[..k])
