@@ -60,6 +60,8 @@ def spelled(name, law):
         return snake(name)
     if name in APART:
         return APART[name]
+    if name.startswith("getD-"):
+        return "get_or-" + snake(name[len("getD-") :])  # std's function on lists has that name
     for f in ON_LISTS:
         if law and snake(name).startswith(f + "_"):
             return f + "-" + snake(name)[len(f) + 1 :]

@@ -9,7 +9,7 @@ use native.Mathlib.Nat.{eq-or-lt_of_le}
 use native.Mathlib.Omega.{arith}
 use lib.ListN.{length, get_or-eq_default}
 use Rattle.lists.proofs.Bools.{either}
-use Rattle.lists.proofs.Column.{getD_padded}
+use Rattle.lists.proofs.Column.{get_or-padded}
 use Rattle.lists.proofs.Total.{total, tally, tally-append}
 use Rattle.rules.specs.Limits.{box}
 use Rattle.rules.specs.Table.{Store, blank_publication, publication_of, payload_of}
@@ -24,7 +24,7 @@ use Rattle.demands.specs.Retained.{retained_at, retained_below, retained}
 -- place by place
 pub at_place : (u : Store) (p : PublicationId) → retained_at (stored u) p ≡ cell_list u p
 at_place u p =
-    rw (getD_padded box.publications blank_publication u.registry.publications p.0, getD_padded box.publications 0 u.payloads p.0)
+    rw (get_or-padded box.publications blank_publication u.registry.publications p.0, get_or-padded box.publications 0 u.payloads p.0)
 
 -- past its end a table keeps nothing
 beyond : (w : ℕ → ℕ) (u : Store) (n : ℕ) → length u.registry.publications ≤ n → weight w (publication_of u (record { 0 = n })) (payload_of u (record { 0 = n })) ≡ 0

@@ -11,24 +11,24 @@ use Rattle.lists.specs.Column.{padded}
 module _ {A : Type 0} (b : A) where
   -- blanks are what stands past the end as well
 
-  pub getD_blanks : (k i : ℕ) → get_or (replicate k b) i b ≡ b
-  getD_blanks zero i = refl
-  getD_blanks (suc k) zero = refl
-  getD_blanks (suc k) (suc i) = getD_blanks k i
+  pub get_or-blanks : (k i : ℕ) → get_or (replicate k b) i b ≡ b
+  get_or-blanks zero i = refl
+  get_or-blanks (suc k) zero = refl
+  get_or-blanks (suc k) (suc i) = get_or-blanks k i
 
-  pub getD_before_blanks : (xs : List A) (k i : ℕ) → get_or (xs ++ replicate k b) i b ≡ get_or xs i b
-  getD_before_blanks [] k i = getD_blanks k i
-  getD_before_blanks (x ∷ xs) k zero = refl
-  getD_before_blanks (x ∷ xs) k (suc i) = getD_before_blanks xs k i
+  pub get_or-before_blanks : (xs : List A) (k i : ℕ) → get_or (xs ++ replicate k b) i b ≡ get_or xs i b
+  get_or-before_blanks [] k i = get_or-blanks k i
+  get_or-before_blanks (x ∷ xs) k zero = refl
+  get_or-before_blanks (x ∷ xs) k (suc i) = get_or-before_blanks xs k i
 
 module _ {A : Type 0} (n : ℕ) (b : A) (xs : List A) where
   pub length-padded : length xs ≤ n → length (padded n b xs) ≡ n
   unfolding padded
   length-padded h = simp (length-append, length-replicate) (omega arith)
 
-  pub getD_padded : (i : ℕ) → get_or (padded n b xs) i b ≡ get_or xs i b
+  pub get_or-padded : (i : ℕ) → get_or (padded n b xs) i b ≡ get_or xs i b
   unfolding padded
-  getD_padded i = getD_before_blanks b xs (n - length xs) i
+  get_or-padded i = get_or-before_blanks b xs (n - length xs) i
 
   pub take-padded : take (length xs) (padded n b xs) ≡ xs
   unfolding padded
@@ -63,16 +63,16 @@ module _ {A : Type 0} (size : ℕ) (b : A) (n : ℕ) (l : List A) where
       let r : length (drop n l) ≡ size - n = rw (length-drop n l, k) in
       let e : drop n l ≡ replicate (size - n) b =
       ext_get_or b (drop n l) (replicate (size - n) b) (r ∙ sym (length-replicate (size - n) b))
-      (λ i m. get_or-drop n l i b ∙ f (n + i) (omega arith) (omega arith) ∙ sym (getD_blanks b (size - n) i)) in
+      (λ i m. get_or-drop n l i b ∙ f (n + i) (omega arith) (omega arith) ∙ sym (get_or-blanks b (size - n) i)) in
       rw (length-take-le n l (omega arith), ← e) (take-append-drop n l)
 
   module _ (e : padded size b (take n l) ≡ l) where
     -- every place, also past its end, shows what the first n show there
-    pub getD_used : (i : ℕ) → get_or l i b ≡ get_or (take n l) i b
-    getD_used i = ap (λ (m : List A). get_or m i b) (sym e) ∙ getD_padded size b (take n l) i
+    pub get_or-used : (i : ℕ) → get_or l i b ≡ get_or (take n l) i b
+    get_or-used i = ap (λ (m : List A). get_or m i b) (sym e) ∙ get_or-padded size b (take n l) i
 
-    pub getD_unused : (i : ℕ) → n ≤ i → get_or l i b ≡ b
-    getD_unused i k = getD_used i ∙ get_or-eq_default (take n l) b (omega (arith, length-first))
+    pub get_or-unused : (i : ℕ) → n ≤ i → get_or l i b ≡ b
+    get_or-unused i k = get_or-used i ∙ get_or-eq_default (take n l) b (omega (arith, length-first))
 
     pub length-column : n ≤ size → length l ≡ size
     length-column h = sym (ap length e) ∙ length-padded size b (take n l) (omega (arith, length-first))

@@ -40,8 +40,8 @@ module _ {A : Type 0} where
   snoc_at Q (x ∷ l) a d old new zero = old zero (omega arith)
   snoc_at Q (x ∷ l) a d old new (suc j) = snoc_at (λ j. Q (suc j)) l a d (λ j h. old (suc j) (omega arith)) new j
 
-  pub getD_snoc : (l : List A) (a d : A) (j : ℕ) → get_or (l ++ (a ∷ [])) j d ≡ cond (eqb (length l) j) a (get_or l j d)
-  getD_snoc l a d =
+  pub get_or-snoc : (l : List A) (a d : A) (j : ℕ) → get_or (l ++ (a ∷ [])) j d ≡ cond (eqb (length l) j) a (get_or l j d)
+  get_or-snoc l a d =
       snoc_at (λ j x. x ≡ cond (eqb (length l) j) a (get_or l j d)) l a d
       (λ j n. rw (ne_eqb (length l) j (λ e. n (sym e))))
       (rw (eq-eqb (length l) (length l) refl))

@@ -11,7 +11,7 @@ use borrow.Author.Tests.{eqb-true, eq-eqb, not-true}
 use Rattle.lists.specs.Column.{padded}
 use Rattle.lists.specs.Every.{each_below}
 use Rattle.lists.proofs.Every.{parts, whole, below_at, below_is}
-use Rattle.lists.proofs.Column.{length-padded, getD_padded, padded-take}
+use Rattle.lists.proofs.Column.{length-padded, get_or-padded, padded-take}
 use Rattle.rules.specs.Table.{blank_publication, blank_lease}
 use Rattle.rules.specs.SoundTest.{nobody, is_blank, is_blank_lease, rest_blank}
 use Rattle.rules.specs.declared.Publication.{Publication}
@@ -75,7 +75,7 @@ module _ {A : Type 0} (size : ℕ) (blank : A → Bool) (d : A) where
         eq-eqb _ _ (length-padded size d xs (omega arith)),
         (
           below_is (λ k. blank (get_or (padded size d xs) (n + k) d)) (size - n)
-              (λ k l. rw (getD_padded size d xs (n + k), get_or-eq_default xs d {n = n + k} (omega arith)) e),
+              (λ k l. rw (get_or-padded size d xs (n + k), get_or-eq_default xs d {n = n + k} (omega arith)) e),
           tt,
         ),
       )

@@ -3,7 +3,7 @@
 use Prim.Native.Nat.{ℕ, ◌≤◌}
 use mathlib.Core.Path.{◌≡◌, sym, ap, subst, ◌∙◌}
 use lib.ListN.{length, take, get_or}
-use Rattle.lists.proofs.Column.{take-padded, take-padded_at, length-padded, getD_padded}
+use Rattle.lists.proofs.Column.{take-padded, take-padded_at, length-padded, get_or-padded}
 use Rattle.rules.specs.Limits.{Limits}
 use Rattle.rules.specs.Table.{Registry, Store, blank_publication, blank_lease}
 use Rattle.rules.specs.Columns.{RegistryColumns, StoreColumns, used_registry, used, filled_registry, filled}
@@ -61,10 +61,10 @@ module _ (L : Limits) (c : RegistryColumns) (s : RegistryColumnsSound L c) where
   leases_length = ap (λ (c : RegistryColumns). length c.leases) (sym s.s6) ∙ length-padded _ _ _ s.in_use.s1.lease_room
 
   pub record_used : (i : ℕ) → get_or c.publications i blank_publication ≡ get_or (take c.count c.publications) i blank_publication
-  record_used i = ap (λ (c : RegistryColumns). get_or c.publications i blank_publication) (sym s.s6) ∙ getD_padded _ _ _ i
+  record_used i = ap (λ (c : RegistryColumns). get_or c.publications i blank_publication) (sym s.s6) ∙ get_or-padded _ _ _ i
 
   pub lease_used : (i : ℕ) → get_or c.leases i blank_lease ≡ get_or (take c.active c.leases) i blank_lease
-  lease_used i = ap (λ (c : RegistryColumns). get_or c.leases i blank_lease) (sym s.s6) ∙ getD_padded _ _ _ i
+  lease_used i = ap (λ (c : RegistryColumns). get_or c.leases i blank_lease) (sym s.s6) ∙ get_or-padded _ _ _ i
 
 module _ (L : Limits) (c : StoreColumns) (s : StoreColumnsSound L c) where
   -- the registry's columns, by themselves
@@ -88,7 +88,7 @@ module _ (L : Limits) (c : StoreColumns) (s : StoreColumnsSound L c) where
       ∙ length-padded _ _ _ (rw s.in_use.s5.revision_each s.in_use.registry.s1.publication_room)
 
   pub payload_used : (i : ℕ) → get_or c.payloads i 0 ≡ get_or (take c.registry.count c.payloads) i 0
-  payload_used i = ap (λ (c : StoreColumns). get_or c.payloads i 0) (sym s.s6) ∙ getD_padded _ _ _ i
+  payload_used i = ap (λ (c : StoreColumns). get_or c.payloads i 0) (sym s.s6) ∙ get_or-padded _ _ _ i
 
   pub revision_used : (i : ℕ) → get_or c.revisions i 0 ≡ get_or (take c.registry.count c.revisions) i 0
-  revision_used i = ap (λ (c : StoreColumns). get_or c.revisions i 0) (sym s.s6) ∙ getD_padded _ _ _ i
+  revision_used i = ap (λ (c : StoreColumns). get_or c.revisions i 0) (sym s.s6) ∙ get_or-padded _ _ _ i

@@ -11,7 +11,7 @@ use borrow.Author.Tests.{leb-true, leb-false, lt-leb, not-false, eqb-true, ne_eq
 use Rattle.lists.specs.Search.{some_pass}
 use Rattle.lists.specs.Every.{Every}
 use Rattle.lists.proofs.Bools.{either}
-use Rattle.lists.proofs.Place.{get_d_set, getD_snoc, set_keeps, within}
+use Rattle.lists.proofs.Place.{get_d_set, get_or-snoc, set_keeps, within}
 use Rattle.rules.specs.Limits.{Limits}
 use Rattle.rules.specs.Answers.{◌⇒◌, verdict, carry, refused, done}
 use Rattle.rules.specs.Commands.{offered}
@@ -123,7 +123,7 @@ module _ (L : Limits) (p : PublicationId) where
   still_hidden : (s : Store) (c : Command) → Clear (tests L s c) → (publication_of s p).visible ≡ false → p.0 < length s.registry.publications
       → (publication_of (effect s c) p).visible ≡ false
   still_hidden s (Publish o g q v) k h b =
-      rw (getD_snoc s.registry.publications (published o g q (length s.registry.publications)) blank_publication p.0, ne_eqb (length s.registry.publications) p.0 (omega arith)) h
+      rw (get_or-snoc s.registry.publications (published o g q (length s.registry.publications)) blank_publication p.0, ne_eqb (length s.registry.publications) p.0 (omega arith)) h
   still_hidden s (Adopt q o g) k h b =
       set_keeps (λ e. e.visible) s.registry.publications q.0 (adopted (publication_of s q)) blank_publication refl p.0 ∙ h
   still_hidden s (Acquire q o g) k h b = h

@@ -10,7 +10,7 @@ use lib.ListN.{length, length-append, length-set}
 use lib.Seq.{get_or-set_other}
 use borrow.Author.Tests.{leb-false, not-false}
 use Rattle.lists.proofs.Bools.{either}
-use Rattle.lists.proofs.Place.{get_d_set, getD_snoc, set_keeps, snoc_at}
+use Rattle.lists.proofs.Place.{get_d_set, get_or-snoc, set_keeps, snoc_at}
 use Rattle.rules.specs.Limits.{Limits}
 use Rattle.rules.specs.Answers.{pass, verdict}
 use Rattle.rules.specs.Table.{Registry, Store, empty_store, blank_publication, at, publication_of, payload_of, revision_of}
@@ -71,7 +71,7 @@ module _ (L : Limits) (s : Store) (k : StoreSound L s) where
             p.0;
         payloads =
             λ p.
-            rw (getD_snoc es e blank_publication p.0, getD_snoc s.payloads v 0 p.0, k.s5.payload_each)
+            rw (get_or-snoc es e blank_publication p.0, get_or-snoc s.payloads v 0 p.0, k.s5.payload_each)
             (either (λ b. (cond b e (publication_of s p)).retained ≡ false → cond b v (payload_of s p) ≡ 0)
             (λ h. absurd (true≢false h))
             (k.s5.payloads p)

@@ -12,7 +12,7 @@ use lib.ListN.{length, get_or, set, length-append, length-set}
 use borrow.Author.Tests.{leb-false, not-false, eqb-true, eqb-false, eq-eqb, ne_eqb}
 use Rattle.lists.specs.Search.{leave_out}
 use Rattle.lists.proofs.Bools.{either, or_left, or_right}
-use Rattle.lists.proofs.Place.{get_d_set, getD_snoc, set_keeps}
+use Rattle.lists.proofs.Place.{get_d_set, get_or-snoc, set_keeps}
 use Rattle.lists.proofs.Search.{some_snoc}
 use Rattle.lists.proofs.Total.{total, total-same, total-change, tally, tally-append}
 use Rattle.rules.specs.Limits.{Limits}
@@ -125,7 +125,7 @@ module _ (L : Limits) (s : Store) (k : StoreSound L s) where
 
   cell_law : (p : PublicationId) (c : Command) → Clear (tests L s c) → cell (effect s c) p ≡ follow (holds p) (cell s p) (tells c (result s c))
   cell_law p (Publish o g q v) c =
-      rw (getD_snoc es (published o g q (length es)) blank_publication p.0, getD_snoc s.payloads v 0 p.0, k.s5.payload_each)
+      rw (get_or-snoc es (published o g q (length es)) blank_publication p.0, get_or-snoc s.payloads v 0 p.0, k.s5.payload_each)
       (either (λ b. kept_in (cond b (published o g q (length es)) (publication_of s p)) (cond b v (payload_of s p)) ≡ cond b (some v) (cell s p)) refl refl (eqb (length es) p.0))
   cell_law p (Adopt q o g) c = ap (λ (b : Bool). cond b (some (payload_of s p)) none) (kept_retained s q (adopted (publication_of s q)) refl p.0)
   cell_law p (Acquire q o g) c = refl
@@ -191,10 +191,10 @@ module _ (L : Limits) (s : Store) (k : StoreSound L s) where
         new n = weight w (get_or (es ++ (e ∷ [])) n blank_publication) (get_or (s.payloads ++ (v ∷ [])) n 0)
 
         earlier : (n : ℕ) → n < length es → new n ≡ old n
-        earlier n h = rw (getD_snoc es e blank_publication n, getD_snoc s.payloads v 0 n, k.s5.payload_each, ne_eqb (length es) n (omega arith))
+        earlier n h = rw (get_or-snoc es e blank_publication n, get_or-snoc s.payloads v 0 n, k.s5.payload_each, ne_eqb (length es) n (omega arith))
 
         last : new (length es) ≡ w v
-        last = rw (getD_snoc es e blank_publication (length es), getD_snoc s.payloads v 0 (length es), k.s5.payload_each, eq-eqb (length es) (length es) refl, r)
+        last = rw (get_or-snoc es e blank_publication (length es), get_or-snoc s.payloads v 0 (length es), k.s5.payload_each, eq-eqb (length es) (length es) refl, r)
 
     replace_swaps : (p : PublicationId) (v : ℕ) → unknown s.registry p ≡ false → (publication_of s p).retained ≡ true
         → w v + total (length es) old ≡ w (payload_of s p) + total (length es) (λ n. weight w (publication_of s (record { 0 = n })) (get_or (set s.payloads p.0 v) n 0))

@@ -13,7 +13,7 @@ use borrow.Author.Tests.{leb-true, le-leb, ltb-true, lt-ltb}
 use Rattle.lists.specs.Every.{every, implies, Every}
 use Rattle.lists.proofs.Bools.{implied, imply}
 use Rattle.lists.proofs.Every.{Passing, parts, whole, below_at, below_is, Apart, apart_tested, every_map, every_at, every_is}
-use Rattle.lists.proofs.Column.{getD_padded, length-used}
+use Rattle.lists.proofs.Column.{get_or-padded, length-used}
 use Rattle.lists.proofs.Place.{within}
 use Rattle.rules.specs.Limits.{Limits}
 use Rattle.rules.specs.Table.{Registry, blank_publication, blank_lease, at}
@@ -102,15 +102,15 @@ module _ (L : Limits) (t : Registry) where
 
   s2_tested : (s2_test columns ≡ true) ↔ S2 t
   s2_tested = (
-    λ e p v. implied _ _ (below_at (λ i. implies (shown i).visible (shown i).retained) count (simp getD_padded at e) p.0 (visible_within p.0 v)) v,
-    λ s. simp getD_padded (below_is _ count (λ i h. imply _ _ (s (identifier i)))),
+    λ e p v. implied _ _ (below_at (λ i. implies (shown i).visible (shown i).retained) count (simp get_or-padded at e) p.0 (visible_within p.0 v)) v,
+    λ s. simp get_or-padded (below_is _ count (λ i h. imply _ _ (s (identifier i)))),
   )
 
   ports_tested : (apart columns same_port ≡ true) ↔ Apart (λ i. (shown i).visible) (λ i. (shown i).port.0)
-  ports_tested = simp getD_padded (apart_tested (λ i. (shown i).visible) (λ i. (shown i).port.0) count visible_within)
+  ports_tested = simp get_or-padded (apart_tested (λ i. (shown i).visible) (λ i. (shown i).port.0) count visible_within)
 
   slots_tested : (apart columns same_slot ≡ true) ↔ Apart (λ i. (shown i).retained) (λ i. (shown i).slot)
-  slots_tested = simp getD_padded (apart_tested (λ i. (shown i).retained) (λ i. (shown i).slot) count retained_within)
+  slots_tested = simp get_or-padded (apart_tested (λ i. (shown i).retained) (λ i. (shown i).slot) count retained_within)
 
   s3_tested : (s3_test columns ≡ true) ↔ S3 t
   s3_tested = (
@@ -138,12 +138,12 @@ module _ (L : Limits) (t : Registry) where
   s4_tested = (
     λ e.
         record {
-          rising = rising_is t.leases (λ i h. leb-true _ _ (simp getD_padded at (passing e (suc i) h).0));
+          rising = rising_is t.leases (λ i h. leb-true _ _ (simp get_or-padded at (passing e (suc i) h).0));
           below = every_is _ t.leases blank_lease (λ i h. ltb-true _ _ (passing e i h).1.0);
           named = every_is _ t.leases blank_lease (λ i h. (passing e i h).1.1.0);
         },
     λ s.
-        simp getD_padded
+        simp get_or-padded
         (below_is (λ i. every (lease_tests i)) (length t.leases)
         (λ i h.
         whole (lease_tests i) (
@@ -153,11 +153,11 @@ module _ (L : Limits) (t : Registry) where
   )
     where
       passing : s4_test columns ≡ true → (i : ℕ) → i < length t.leases → Passing (lease_tests i)
-      passing e i h = parts (lease_tests i) (below_at (λ i. every (lease_tests i)) (length t.leases) (simp getD_padded at e) i h)
+      passing e i h = parts (lease_tests i) (below_at (λ i. every (lease_tests i)) (length t.leases) (simp get_or-padded at e) i h)
 
       risen : Rising t.leases → (i : ℕ) → i < length t.leases → least columns i ≤ (lent i).id.0
       risen r zero h = omega arith
-      risen r (suc i) h = simp getD_padded (rising_at t.leases r i h)
+      risen r (suc i) h = simp get_or-padded (rising_at t.leases r i h)
 
   s6_is : S1 L t → s6_registry_test L columns ≡ true
   s6_is s =

@@ -13,7 +13,7 @@ use Rattle.lists.specs.Column.{padded}
 use Rattle.lists.specs.Every.{every}
 use Rattle.lists.proofs.Bools.{otherwise, or_else}
 use Rattle.lists.proofs.Every.{Passing, parts, whole, below_at, below_is, every_place}
-use Rattle.lists.proofs.Column.{getD_padded, length-used}
+use Rattle.lists.proofs.Column.{get_or-padded, length-used}
 use Rattle.rules.specs.Limits.{Limits}
 use Rattle.rules.specs.Table.{Store, publication_of, payload_of}
 use Rattle.rules.specs.Columns.{RegistryColumns, StoreColumns, used, filled}
@@ -52,7 +52,7 @@ module _ (L : Limits) (s : Store) where
 
   s5_is : S5 s → s5_test columns ≡ true
   s5_is k =
-      simp getD_padded
+      simp get_or-padded
       (below_is (λ i. every (cell_tests i)) count
       (λ i h.
       whole (cell_tests i) (
@@ -85,7 +85,7 @@ module _ (L : Limits) (s : Store) where
         }
       where
         passing : (i : ℕ) → i < count → Passing (cell_tests i)
-        passing i h = parts (cell_tests i) (below_at (λ i. every (cell_tests i)) count (simp getD_padded at e) i h)
+        passing i h = parts (cell_tests i) (below_at (λ i. every (cell_tests i)) count (simp get_or-padded at e) i h)
 
     filled_at : store_test L columns ≡ true → StoreSound L s
     unfolding store_test

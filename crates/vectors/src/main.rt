@@ -5,8 +5,9 @@
 ghost use Rattle.std.specs.Prelude.{◌≡◌, ◌≤◌, IfOk, length, take};
 ghost use Rattle.std.specs.Io.{ReadsAtMost};
 
+use std::env::FillError;
 use std::rt::{Env, Files};
-use std::{env, fs, io, str};
+use std::{fs, io, str};
 
 // Reads the file whose path is the first n bytes of path and then ending, and answers how many bytes it put into buf. Of a file that can't
 // be opened it tells why on standard error, and puts nothing.
@@ -94,10 +95,13 @@ fn judge(rt: &(impl Env + Files + Print + Eprint), i: usize) -> io::Result<u64>
 }
 
 fn main(rt: HostRuntime) -> io::Result<()> {
-    let count = env::args(&rt)?.len();
     let mut same: u64 = 0;
     let mut different: u64 = 0;
-    for i in 1..count {
+    for i in 1..usize::MAX {
+        let mut path = [0u8; 128];
+        if let Err(FillError::NotPresent) = rt.arg(i, &mut path) {
+            break;
+        }
         let n = judge(&rt, i)?;
         same += n;
         different += 1 - n;
