@@ -120,4 +120,4 @@ pub total : {f : Entry} {Met : World → Routine → Type 1}
     → ((γ : Env) → Wired γ f.code → Met (world γ) (γ f.name)) → AsksNothing f → Wired built f.code
     → Total f
 total {f} known met nothing stands =
-    record { asks_nothing = nothing; ends = λ γ wired. comes_back f γ (known (world γ) γ f.name (γ f.name) refl (met γ wired)) nothing; stands = stands }
+    record { asks_nothing = nothing; ends = λ γ wired. comes_back f γ (known (world γ) γ f.name (γ f.name) refl (met γ wired)) nothing; in_build = stands }

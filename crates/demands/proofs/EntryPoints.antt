@@ -175,7 +175,7 @@ reader_total : (f : ReaderEntry)
     → ((γ : Env) → Wired γ f.code → Meets logic₀ f.ended.signature ((running γ).run (γ f.name)) (closing logic₀ f.ended f.contract))
     → ReaderAsksNothing f → Wired built f.code → ReaderTotal f
 reader_total f met nothing stands =
-    record { asks_nothing = nothing; ends = λ γ wired. answered f γ (met γ wired) nothing; stands = stands }
+    record { asks_nothing = nothing; ends = λ γ wired. answered f γ (met γ wired) nothing; in_build = stands }
 
 pub readers_end : ReadersTotal
 readers_end =

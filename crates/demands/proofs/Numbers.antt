@@ -1,19 +1,16 @@
 -- The number of a refusal, as the code's answers carry it: the one fixed for it, and never 0.
 -- Assumes nothing.
-use Prim.Native.Nat.{ℕ}
-use mathlib.Core.Path.{◌≡◌, refl, sym, ap, ◌∙◌}
-use mathlib.Core.List.{[], ◌∷◌}
-use native.Mathlib.Omega.{arith}
-use lib.ListN.{get_or}
+use mathlib.Core.Path.{◌≡◌, refl}
 use Rattle.rules.specs.Refusals.{refusal_number}
 use Rattle.rules.specs.Answers.{refused, done}
 use Rattle.rules.specs.Commands.{Offered}
 use Rattle.rules.specs.Queries.{Query, QueryResult, Beside, leased_value, value, contains_handle, registry_copy}
 use Rattle.rules.specs.RegistryRows.{Call, publish, can_adopt, adopt, check_lease_capacity, acquire, leased_slot, release, revoke, reclaim, resolve, entry, lease, domain, publication_records, lease_record_count, lease_allocation_count}
 use Rattle.rules.specs.declared.Refusal.{Refusal}
-use Rattle.rules.specs.declared.Refusal.TheVariants.{Unknown, Revoked, Conflict, Relied, Visible, Released, Capacity, InvalidState, BadTable, Absent}
 use Rattle.rules.specs.declared.Command.{Command}
 use Rattle.rules.specs.declared.Command.TheVariants.{Publish, Adopt, Acquire, Release, Revoke, Replace, Reclaim, Read, Observe, Resolve, Count}
+use Rattle.rules.proofs.Numbers as numbers
+use Rattle.rules.proofs.Responses.{no_refusal}
 use Rattle.demands.specs.Calls.{given}
 use Rattle.demands.specs.Numbers.{command_number, query_number, call_number}
 
@@ -54,39 +51,12 @@ call_carries publication_records r = refl
 call_carries lease_record_count r = refl
 call_carries lease_allocation_count r = refl
 
--- the refusal of a number
-numbered : ℕ → Refusal
-numbered n =
-    get_or (Absent ∷ Unknown ∷ Revoked ∷ Conflict ∷ Relied ∷ Visible ∷ Released ∷ Capacity ∷ InvalidState ∷ BadTable ∷ []) n Absent
-
-number_back : (r : Refusal) → numbered (refusal_number r) ≡ r
-unfolding numbered
-number_back Unknown = refl
-number_back Revoked = refl
-number_back Conflict = refl
-number_back Relied = refl
-number_back Visible = refl
-number_back Released = refl
-number_back Capacity = refl
-number_back InvalidState = refl
-number_back BadTable = refl
-number_back Absent = refl
-
--- so a number says which refusal it is
+-- a number says which refusal it is
 pub fixed : (q r : Refusal) → refusal_number q ≡ refusal_number r → q ≡ r
-fixed q r e = sym (number_back q) ∙ ap numbered e ∙ number_back r
+fixed = numbers.fixed
 
 pub never_zero : (r : Refusal) → refusal_number r ≡ 0 → ⊥
-never_zero Unknown e = omega arith
-never_zero Revoked e = omega arith
-never_zero Conflict e = omega arith
-never_zero Relied e = omega arith
-never_zero Visible e = omega arith
-never_zero Released e = omega arith
-never_zero Capacity e = omega arith
-never_zero InvalidState e = omega arith
-never_zero BadTable e = omega arith
-never_zero Absent e = omega arith
+never_zero = no_refusal
 
 -- a query that is answered carries 0
 pub query_zero : (q : Query) (x : QueryResult q) → query_number q (given q (done x)) ≡ 0

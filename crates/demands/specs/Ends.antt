@@ -74,4 +74,4 @@ module _ (f : Entry) where
     pub asks_nothing : AsksNothing
     pub ends : Ends
     -- the crates as they are built are such an environment
-    pub stands : Wired built f.code
+    pub in_build : Wired built f.code

@@ -143,8 +143,8 @@ pub data EachTotal : List Entry → Type 3 where
   none : EachTotal []
   ◌and◌ : {f : Entry} {fs : List Entry} → Total f → EachTotal fs → EachTotal (f ∷ fs)
 
--- Four calls take or hand back a `Reader`, which holds a reference. The prover has no kind for such a parameter, so they are no `Entry`: each
--- stands here with its signature, the assertions that its source makes, on the machine, and the code that the machine runs.
+-- Four calls take or hand back a `Reader`, which holds a reference. They are no `Entry`: each stands here with its signature, the assertions
+-- that its source makes, on the machine, and the code that the machine runs.
 
 pub record ReaderEntry : Type 2 where
   pub ended : Ended
@@ -184,7 +184,8 @@ module _ (f : ReaderEntry) where
   pub record ReaderTotal : Type 2 where
     pub asks_nothing : ReaderAsksNothing
     pub ends : (γ : Env) → Wired γ f.code → (x : CalledOn) (σ : Memory) (rest : Held) → ReaderBegins x σ rest → ∥ Answered γ x σ rest ∥₁
-    pub stands : Wired built f.code
+    -- the crates as they are built are such an environment
+    pub in_build : Wired built f.code
 
 abbrev pub reader_new : ReaderEntry
 reader_new =

@@ -1,4 +1,4 @@
-// The run of a trace, its report and the name of a number, for programs in C: include/lease_broker.h declares these calls.
+// The run of a trace, its report and the name of a number, as programs in C call them: crate embed_c exports these calls.
 //
 // A call works in the bytes that it is lent and on its own stack. It keeps nothing: the next run starts from an empty store again.
 #![tactic(auto)]

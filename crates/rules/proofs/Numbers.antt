@@ -1,9 +1,8 @@
--- The number of a refusal says which it is, and is never 0.
+-- The number of a refusal says which it is.
 -- Assumes nothing.
 use Prim.Native.Nat.{ℕ}
 use mathlib.Core.Path.{◌≡◌, refl, sym, ap, ◌∙◌}
 use mathlib.Core.List.{[], ◌∷◌}
-use native.Mathlib.Omega.{arith}
 use lib.ListN.{get_or}
 use Rattle.rules.specs.Refusals.{refusal_number}
 use Rattle.rules.specs.declared.Refusal.{Refusal}
@@ -30,15 +29,3 @@ number_back Absent = refl
 -- so a number says which refusal it is
 pub fixed : (q r : Refusal) → refusal_number q ≡ refusal_number r → q ≡ r
 fixed q r e = sym (number_back q) ∙ ap numbered e ∙ number_back r
-
-pub no_refusal : (r : Refusal) → refusal_number r ≡ 0 → ⊥
-no_refusal Unknown e = omega arith
-no_refusal Revoked e = omega arith
-no_refusal Conflict e = omega arith
-no_refusal Relied e = omega arith
-no_refusal Visible e = omega arith
-no_refusal Released e = omega arith
-no_refusal Capacity e = omega arith
-no_refusal InvalidState e = omega arith
-no_refusal BadTable e = omega arith
-no_refusal Absent e = omega arith
