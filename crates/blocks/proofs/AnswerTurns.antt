@@ -10,14 +10,13 @@ use borrow.Author.Tests.{le-leb, leb-true}
 use Rattle.lists.specs.Every.{implies}
 use Rattle.lists.proofs.Bools.{implied}
 use Rattle.lists.proofs.Every.{below_at}
-use Rattle.rules.specs.Responses.{response_number}
 use Rattle.rules.specs.declared.Response.{Response}
 use Rattle.text.specs.Keys.{answer, key_text}
 use Rattle.text.specs.Lines.{line_text}
 use Rattle.writing.specs.Written.{over, over_from}
 use Rattle.writing.proofs.Lines.{line_most}
 use Rattle.writing.proofs.Written.{over_after}
-use Rattle.blocks.specs.Answers.{KeyValue, ◌is◌, value_lines, answer_lines, lines_text, answer_text}
+use Rattle.blocks.specs.Answers.{KeyValue, ◌is◌, answer_lines, lines_text, answer_text}
 use Rattle.blocks.proofs.Answers.{answer_line}
 
 pub lines_append : (ls ms : List KeyValue) → lines_text (ls ++ ms) ≡ lines_text ls ++ lines_text ms
@@ -28,9 +27,6 @@ lines_append (l ∷ ls) ms =
 -- these lines are written at the start of out, which makes xs of it, and they are n bytes long
 abbrev pub Written : List KeyValue → List ℕ → ℕ → List ℕ → Type 0
 Written ls out n xs = (n ≡ length (lines_text ls)) × (xs ≡ over (lines_text ls) out)
-
-pub first_line : (k v n : ℕ) (out xs : List ℕ) → (n ≡ length (line_text k v)) × (xs ≡ over (line_text k v) out) → Written ((k is v) ∷ []) out n xs
-first_line k v n out xs p = rw (append-nil (line_text k v)) p
 
 pub next_line : (ls : List KeyValue) (k v at next : ℕ) (out xs ys : List ℕ) → Written ls out at xs
     → (next ≡ at + length (line_text k v)) × (ys ≡ over_from at (line_text k v) xs) → Written (ls ++ (k is v) ∷ []) out next ys
@@ -59,7 +55,3 @@ module _ (r k : Response) (e : r ≡ k) (n : ℕ) (out xs : List ℕ) where
   pub answered : Written (answer_lines k) out n xs → (n ≡ length (answer_text r)) × (xs ≡ over (answer_text r) out)
   unfolding answer_text
   answered p = rw e p
-
-  pub answered_number : (v : ℕ) → v ≡ response_number k → value_lines k ≡ [] → (n ≡ length (line_text answer v)) × (xs ≡ over (line_text answer v) out)
-      → (n ≡ length (answer_text r)) × (xs ≡ over (answer_text r) out)
-  answered_number v q z p = answered (rw (sym q, z) (first_line answer v n out xs p))

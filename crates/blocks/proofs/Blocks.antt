@@ -14,17 +14,16 @@ use Rattle.lists.proofs.Every.{below_at, every_map, every_place}
 use Rattle.lists.proofs.Search.{none_of}
 use Rattle.lists.proofs.Append.{append_cancel}
 use Rattle.rules.specs.declared.Command.{Command}
-use Rattle.text.specs.Reading.{Reading, unfinished, wrong, got, Form, Means, Exact, Then, then_read}
-use Rattle.text.specs.Ops.{op_lines, OpLine, op_line_of, op_at, op_reading}
+use Rattle.std.specs.Prelude.{Ok}
+use Rattle.text.specs.Reading.{Reading, Form, Means, Exact, Then}
+use Rattle.text.specs.Ops.{op_lines, OpLine, op_line_of, op_at}
 use Rattle.text.specs.Keys.{lease, key_rows}
 use Rattle.text.proofs.Reading.{means_same, only, shows, within}
 use Rattle.text.proofs.Sequence.{then_exact}
 use Rattle.text.proofs.Ops.{op_exact}
 use Rattle.blocks.specs.Saying.{Saying}
 use Rattle.blocks.specs.Fields.{Fields, fields_at, fields_text}
-use Rattle.blocks.specs.Blocks.{row_of, values_of, keys_of, BlockText, command_of, as_block, row_read, block_at, block_reading, InWidth, block_of, blocks_text}
-use Rattle.blocks.specs.declared.Block.{Block}
-use Rattle.blocks.specs.declared.Block.TheVariants.{Unfinished, Wrong, Got}
+use Rattle.blocks.specs.Blocks.{row_of, values_of, keys_of, BlockText, command_of, lines_at, block_at, InWidth, block_of, blocks_text}
 use Rattle.blocks.proofs.Saying.{saying_exact, saying_some}
 use Rattle.blocks.proofs.Fields.{Known, fields_exact, fields_some, fields_fit, fields_form}
 use Rattle.blocks.proofs.Commands.{command_of_values, row_below, of_command}
@@ -65,36 +64,19 @@ text_told w c b =
       text = b.text;
     }
 
-told_read : List ℕ → ℕ → Reading Command
-told_read s at = then_read (op_reading (op_at s at)) (λ row. row_read row s)
-
-told_exact : Exact Told told_read
-unfolding told_read
+told_exact : Exact Told block_at
+unfolding block_at lines_at
 told_exact =
-    then_exact OpLine (λ row. Saying (command_of row) (Fields (keys_of row))) (λ s at. op_reading (op_at s at)) row_read op_exact
+    then_exact OpLine (λ row. Saying (command_of row) (Fields (keys_of row))) op_at lines_at op_exact
     (λ row. saying_exact (command_of row) (Fields (keys_of row)) (fields_at (keys_of row)) (fields_exact (keys_of row) (keys_known row)))
     (λ row. saying_some (command_of row) (Fields (keys_of row)) (fields_some (keys_of row) (keys_known row)))
 
-as_reading : (r : Reading Command) → block_reading (as_block r) ≡ r
-as_reading unfinished = refl
-as_reading wrong = refl
-as_reading (got c next) = refl
-
-pub block_exact : Exact BlockText (λ s at. block_reading (block_at s at))
-unfolding block_at told_read
+pub block_exact : Exact BlockText block_at
 block_exact =
     record {
       apart = λ w v a b rest left f g. told_exact.apart w v a b rest left (text_told w a f) (text_told v b g);
-      means = λ s at.
-          rw (as_reading (told_read s at)) (means_same Told BlockText text_told told_text (drop at s) at (told_read s at) (told_exact.means s at));
+      means = λ s at. means_same Told BlockText text_told told_text (drop at s) at (block_at s at) (told_exact.means s at);
     }
-
--- what it answers has the meaning, and no other answer has
-
-as_answer : (b : Block) → as_block (block_reading b) ≡ b
-as_answer Unfinished = refl
-as_answer Wrong = refl
-as_answer (Got c next) = refl
 
 -- no block is empty: its op line is not
 
@@ -105,26 +87,26 @@ op_some w r f =
 block_some : (c : Command) → BlockText [] c → ⊥
 block_some c b = omega (arith, op_some b.op (row_of c) b.names, ap length b.text, length-append b.op b.lines)
 
+-- what it answers has the meaning, and no other answer has
 module _ (s : List ℕ) (at : ℕ) where
-  pub block_shows : (b : Block) → block_at s at ≡ b → Means BlockText (drop at s) at (block_reading b)
-  block_shows b e = shows BlockText (λ s at. block_reading (block_at s at)) block_exact s at (block_reading b) (ap block_reading e)
+  pub block_shows : (r : Reading Command) → block_at s at ≡ r → Means BlockText (drop at s) at r
+  block_shows r e = shows BlockText block_at block_exact s at r e
 
-  pub block_only : (b : Block) → Means BlockText (drop at s) at (block_reading b) → block_at s at ≡ b
-  block_only b m =
-      sym (as_answer (block_at s at)) ∙ ap as_block (only BlockText (λ s at. block_reading (block_at s at)) block_exact s at (block_reading b) m) ∙ as_answer b
+  pub block_only : (r : Reading Command) → Means BlockText (drop at s) at r → block_at s at ≡ r
+  block_only r m = only BlockText block_at block_exact s at r m
 
   -- each text of a command is read, whatever stands after it
-  pub block_reads : (w rest : List ℕ) (c : Command) → BlockText w c → drop at s ≡ w ++ rest → block_at s at ≡ Got c (at + length w)
-  block_reads w rest c f e = block_only (Got c (at + length w)) (record { text = w; says = c; rest = rest; form = f; here = e }, refl, refl)
+  pub block_reads : (w rest : List ℕ) (c : Command) → BlockText w c → drop at s ≡ w ++ rest → block_at s at ≡ Ok (c, at + length w)
+  block_reads w rest c f e = block_only (Ok (c, at + length w)) (record { text = w; says = c; rest = rest; form = f; here = e }, refl, refl)
 
   -- what is read lies within the input, and its values fit their keys' widths
 
-  pub block_next : (c : Command) (next : ℕ) → block_at s at ≡ Got c next → (at < next) × (next ≤ length s)
-  block_next c next e = within BlockText (λ s at. block_reading (block_at s at)) block_exact s at block_some c next (ap block_reading e)
+  pub block_next : (c : Command) (next : ℕ) → block_at s at ≡ Ok (c, next) → (at < next) × (next ≤ length s)
+  block_next c next e = within BlockText block_at block_exact s at block_some c next e
 
-  pub block_fits : (c : Command) (next : ℕ) → block_at s at ≡ Got c next → InWidth c
+  pub block_fits : (c : Command) (next : ℕ) → block_at s at ≡ Ok (c, next) → InWidth c
   block_fits c next e =
-      let m = block_shows (Got c next) e in
+      let m = block_shows (Ok (c, next)) e in
       let t = m.0 in
       subst InWidth m.1 (fields_fit (keys_of (row_of t.says)) t.form.lines (values_of t.says) t.form.values)
 
@@ -141,7 +123,7 @@ block_of_text c h =
       text = refl;
     }
 
-pub block_of_read : (c : Command) → InWidth c → (s : List ℕ) (at : ℕ) (rest : List ℕ) → drop at s ≡ block_of c ++ rest → block_at s at ≡ Got c (at + length (block_of c))
+pub block_of_read : (c : Command) → InWidth c → (s : List ℕ) (at : ℕ) (rest : List ℕ) → drop at s ≡ block_of c ++ rest → block_at s at ≡ Ok (c, at + length (block_of c))
 block_of_read c h s at rest e = block_reads s at (block_of c) rest c (block_of_text c h) e
 
 not_empty : (c : Command) → InWidth c → (rest : List ℕ) → [] ≡ block_of c ++ rest → ⊥

@@ -1,4 +1,4 @@
--- The command of a row, row by row; a port's value fits 32 bits.
+-- A port's value fits 32 bits.
 -- Assumes nothing.
 use Prim.Native.Nat.{ℕ, zero, suc, ◌≤◌, ◌<◌}
 use mathlib.Core.Path.{◌≡◌, ap, subst}
@@ -6,14 +6,9 @@ use mathlib.Core.List.{List, [], ◌∷◌}
 use native.Mathlib.Omega.{arith}
 use native.Mathlib.Nat.{not-suc-le-zero, le_of_suc-le-suc}
 use lib.ListN.{length, get_or}
-use Rattle.rules.specs.Probes.{count}
 use Rattle.text.specs.Keys.{port, key_limit}
 use Rattle.blocks.specs.Fields.{Fitting}
-use Rattle.blocks.specs.Blocks.{keys_of, commands, command_of}
-
-pub command_at : (row k : ℕ) (v : List ℕ) → row ≡ k → get_or (commands (λ j. get_or v j 0)) k count ≡ command_of row v
-unfolding command_of
-command_at row k v e = rw e
+use Rattle.blocks.specs.Blocks.{keys_of}
 
 fitting_at : (codes vs : List ℕ) → Fitting codes vs → (j : ℕ) → j < length codes → get_or vs j 0 ≤ key_limit (get_or codes j 0)
 fitting_at [] vs f j h = absurd (not-suc-le-zero h)

@@ -9,10 +9,10 @@ use lib.Dec.{ltb, leb, eqb-suc-zero}
 use borrow.Author.Tests.{ltb-true, le-leb}
 use Rattle.lists.specs.Every.{Every}
 use Rattle.lists.proofs.Every.{whole, below_at, every_place}
-use Rattle.text.specs.Reading.{got, Exact}
+use Rattle.std.specs.Prelude.{Ok}
+use Rattle.text.specs.Reading.{Exact}
 use Rattle.text.specs.Decimal.{most_digits}
 use Rattle.text.specs.Keys.{owner, lease, key_limits, key_limit}
-use Rattle.text.specs.Value.{value_reading}
 use Rattle.text.proofs.Sequence.{then_exact}
 use Rattle.text.proofs.KeyLines.{key_line_exact}
 use Rattle.writing.proofs.Lines.{line_text_form}
@@ -21,14 +21,14 @@ use Rattle.blocks.specs.Fields.{Field, Fields, Fitting, field_at, fields_at, fie
 use Rattle.blocks.proofs.Saying.{saying_exact, saying_some}
 
 -- no text at all, which says one thing
-nothing_exact : {A : Type 0} (a : A) → Exact (λ w b. (w ≡ []) × (b ≡ a)) (λ s at. got a at)
+nothing_exact : {A : Type 0} (a : A) → Exact (λ w b. (w ≡ []) × (b ≡ a)) (λ s at. Ok (a, at))
 nothing_exact a =
     record {
       apart = λ w v b c rest left f g e. (f.0 ∙ sym g.0, f.1 ∙ sym g.1);
       means = λ s at. (record { text = []; says = a; rest = drop at s; form = (refl, refl); here = refl }, refl, omega arith);
     }
 
-pub field_exact : (code : ℕ) → Exact (Field code) (λ s at. value_reading (field_at code s at))
+pub field_exact : (code : ℕ) → Exact (Field code) (field_at code)
 unfolding field_at
 field_exact zero = nothing_exact 0
 field_exact (suc code) =
@@ -59,7 +59,7 @@ pub fields_exact : (codes : List ℕ) → Known codes → Exact (Fields codes) (
 unfolding fields_at
 fields_exact [] k = nothing_exact []
 fields_exact (c ∷ cs) k =
-    then_exact (Field c) (λ v. Saying (λ us. v ∷ us) (Fields cs)) (λ s at. value_reading (field_at c s at)) (λ v s at. said (λ us. v ∷ us) (fields_at cs s at)) (field_exact c)
+    then_exact (Field c) (λ v. Saying (λ us. v ∷ us) (Fields cs)) (field_at c) (λ v s at. said (λ us. v ∷ us) (fields_at cs s at)) (field_exact c)
     (λ v. saying_exact (λ us. v ∷ us) (Fields cs) (fields_at cs) (fields_exact cs k.1))
     (λ v. saying_some (λ us. v ∷ us) (Fields cs) (fields_some cs k.1))
 

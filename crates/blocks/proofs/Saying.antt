@@ -4,7 +4,9 @@ use Prim.Native.Nat.{ℕ}
 use mathlib.Core.Path.{◌≡◌, refl, sym, ap, ◌∙◌}
 use mathlib.Core.List.{List}
 use lib.ListN.{drop}
-use Rattle.text.specs.Reading.{Reading, unfinished, wrong, got, Form, Stands, Begins, Means, Apart, Exact}
+use Rattle.std.specs.Prelude.{Ok, Err}
+use Rattle.text.specs.Reading.{Reading, Form, Stands, Begins, Means, Apart, Exact}
+use Rattle.text.specs.declared.Misread.TheVariants.{Unfinished, Wrong}
 use Rattle.blocks.specs.Saying.{Saying, said}
 
 module _ {A B : Type 0} (f : A → B) (F : Form A) where
@@ -18,9 +20,9 @@ module _ {A B : Type 0} (f : A → B) (F : Form A) where
   begins_plain xs b = record { more = b.more; says = b.form.says; form = b.form.form }
 
   saying_means : (xs : List ℕ) (at : ℕ) (r : Reading A) → Means F xs at r → Means (Saying f F) xs at (said f r)
-  saying_means xs at unfinished m = (λ t. m.0 (stands_plain xs t), record { more = m.1.more; says = f m.1.says; form = saying m.1.form })
-  saying_means xs at wrong m = (λ t. m.0 (stands_plain xs t), λ b. m.1 (begins_plain xs b))
-  saying_means xs at (got a next) m =
+  saying_means xs at (Err Unfinished) m = (λ t. m.0 (stands_plain xs t), record { more = m.1.more; says = f m.1.says; form = saying m.1.form })
+  saying_means xs at (Err Wrong) m = (λ t. m.0 (stands_plain xs t), λ b. m.1 (begins_plain xs b))
+  saying_means xs at (Ok (a, next)) m =
       let t = m.0 in
       (record { text = t.text; says = f t.says; rest = t.rest; form = saying t.form; here = t.here }, ap f m.1, m.2)
 
@@ -39,11 +41,9 @@ module _ {A B : Type 0} (f : A → B) (F : Form A) where
 -- what is said twice over
 
 pub said_said : {A B C : Type 0} (f : B → C) (g : A → B) (h : A → C) → ((a : A) → f (g a) ≡ h a) → (r : Reading A) → said f (said g r) ≡ said h r
-said_said f g h e unfinished = refl
-said_said f g h e wrong = refl
-said_said f g h e (got a next) = ap (λ c. got c next) (e a)
+said_said f g h e (Err x) = refl
+said_said f g h e (Ok (a, next)) = ap (λ c. Ok (c, next)) (e a)
 
 pub said_same : {A : Type 0} (f : A → A) → ((a : A) → f a ≡ a) → (r : Reading A) → said f r ≡ r
-said_same f e unfinished = refl
-said_same f e wrong = refl
-said_same f e (got a next) = ap (λ b. got b next) (e a)
+said_same f e (Err x) = refl
+said_same f e (Ok (a, next)) = ap (λ b. Ok (b, next)) (e a)

@@ -4,13 +4,11 @@ use Rattle.std.specs.Prelude.{ℕ, ◌≡◌, List, [], ◌∷◌, ◌++◌, get
 use Rattle.rules.specs.Probes.{publish, adopt, acquire, release, revoke, replace, reclaim, read, observe, resolve, count}
 use Rattle.rules.specs.declared.Command.{Command}
 use Rattle.rules.specs.declared.Command.TheVariants.{Publish, Adopt, Acquire, Release, Revoke, Replace, Reclaim, Read, Observe, Resolve, Count}
-use Rattle.text.specs.Reading.{Reading, unfinished, wrong, got, then_read}
-use Rattle.text.specs.Ops.{OpLine, op_line_of, op_at, op_reading}
+use Rattle.text.specs.Reading.{Reading, then_read}
+use Rattle.text.specs.Ops.{OpLine, op_line_of, op_at}
 use Rattle.text.specs.Keys.{key_rows}
 use Rattle.blocks.specs.Saying.{said}
 use Rattle.blocks.specs.Fields.{Fields, Fitting, fields_at, fields_text}
-use Rattle.blocks.specs.declared.Block.{Block}
-use Rattle.blocks.specs.declared.Block.TheVariants.{Unfinished, Wrong, Got}
 
 -- a command's row of the op table and of the key table, and the values of its keys in order, 0 where there is no key
 
@@ -74,26 +72,11 @@ command_of row vs = get_or (commands (λ k. get_or vs k 0)) row count
 
 -- what reading finds: the op line's row, and then the values of that row's keys
 
-abbrev pub as_block : Reading Command → Block
-as_block unfinished = Unfinished
-as_block wrong = Wrong
-as_block (got c next) = Got c next
+unfoldable pub lines_at : ℕ → List ℕ → ℕ → Reading Command
+lines_at row s at = said (command_of row) (fields_at (keys_of row) s at)
 
-abbrev pub row_read : ℕ → List ℕ → ℕ → Reading Command
-row_read row s at = said (command_of row) (fields_at (keys_of row) s at)
-
-unfoldable pub lines_at : ℕ → List ℕ → ℕ → Block
-lines_at row s at = as_block (row_read row s at)
-
-unfoldable pub block_at : List ℕ → ℕ → Block
-block_at s at = as_block (then_read (op_reading (op_at s at)) (λ row. row_read row s))
-
--- the answer as a reading
-
-abbrev pub block_reading : Block → Reading Command
-block_reading Unfinished = unfinished
-block_reading Wrong = wrong
-block_reading (Got c next) = got c next
+unfoldable pub block_at : List ℕ → ℕ → Reading Command
+block_at s at = then_read (op_at s at) (λ row. lines_at row s)
 
 -- a command whose values fit their keys' widths
 

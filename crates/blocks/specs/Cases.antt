@@ -1,6 +1,6 @@
 -- Document 01's whole case of the trace text, and the cases next to it: what is read, and what is written.
 -- Assumes nothing.
-use Rattle.std.specs.Prelude.{ℕ, zero, suc, ◌≡◌, refl, List, [], ◌∷◌, ◌++◌, map, length}
+use Rattle.std.specs.Prelude.{ℕ, zero, suc, ◌≡◌, refl, List, [], ◌∷◌, ◌++◌, map, length, Ok, Err}
 use Prim.Native.String.{String}
 use Rattle.lists.specs.Letters.{letters}
 use Rattle.rules.specs.Limits.{box}
@@ -12,6 +12,7 @@ use Rattle.rules.specs.declared.Command.{Command}
 use Rattle.rules.specs.declared.Refusal.TheVariants.{InvalidState, Absent}
 use Rattle.rules.specs.declared.Response.{Response}
 use Rattle.rules.specs.declared.Response.TheVariants as R
+use Rattle.text.specs.Reading.{Reading}
 use Rattle.text.specs.Decimal.{line_feed}
 use Rattle.text.specs.Digits.{digits_in, digits}
 use Rattle.text.specs.Value.{scan, value_at}
@@ -20,10 +21,9 @@ use Rattle.text.specs.Ops.{op_line_of, row_at, first_row, op_at}
 use Rattle.text.specs.Keys.{key_text, key_limit}
 use Rattle.text.specs.Lines.{line_at, key_line_at, line_text}
 use Rattle.blocks.specs.Fields.{field_at, fields_at}
-use Rattle.blocks.specs.Blocks.{command_of, block_at, block_of, blocks_text}
+use Rattle.blocks.specs.Blocks.{command_of, lines_at, block_at, block_of, blocks_text}
 use Rattle.blocks.specs.Answers.{answer_text, answers_text}
-use Rattle.blocks.specs.declared.Block.{Block}
-use Rattle.blocks.specs.declared.Block.TheVariants.{Unfinished, Wrong, Got}
+use Rattle.text.specs.declared.Misread.TheVariants.{Unfinished, Wrong}
 
 infix 5 ◌reads◌
 -- lines, each ended by one line feed
@@ -89,10 +89,9 @@ pub record BlocksRead : Type 0 where
   pub commands : List Command
   pub next : ℕ
 
-abbrev pub with_block : Block → ℕ → (ℕ → BlocksRead) → BlocksRead
-with_block Unfinished at more = record { commands = []; next = at }
-with_block Wrong at more = record { commands = []; next = at }
-with_block (Got c next) at more = record { commands = c ∷ (more next).commands; next = (more next).next }
+abbrev pub with_block : Reading Command → ℕ → (ℕ → BlocksRead) → BlocksRead
+with_block (Err e) at more = record { commands = []; next = at }
+with_block (Ok (c, next)) at more = record { commands = c ∷ (more next).commands; next = (more next).next }
 
 abbrev pub read_blocks : ℕ → List ℕ → ℕ → BlocksRead
 read_blocks zero s at = record { commands = []; next = at }
@@ -109,54 +108,54 @@ pub whole_case :
     (read_blocks 7 whole_input 0 ≡ record { commands = whole_commands; next = length whole_input })
     × (blocks_text whole_commands ≡ whole_input)
     × (answers_text (responses empty whole_commands) ≡ whole_output)
-unfolding block_at block_of op_line_of command_of fields_at field_at op_at first_row row_at word_at compared key_line_at line_at value_at scan key_text key_limit step respond answer_text line_text digits digits_in
+unfolding block_at lines_at block_of op_line_of command_of fields_at field_at op_at first_row row_at word_at compared key_line_at line_at value_at scan key_text key_limit step respond answer_text line_text digits digits_in
 whole_case = (refl, refl, refl)
 
 -- a text, and what reading a block at its start must find
 
 pub record Sample : Type 0 where
   pub text : List ℕ
-  pub finds : Block
+  pub finds : Reading Command
 
-abbrev pub ◌reads◌ : List ℕ → Block → Sample
+abbrev pub ◌reads◌ : List ℕ → Reading Command → Sample
 t reads b = record { text = t; finds = b }
 
 abbrev pub samples : List Sample
 samples =
     -- no last line feed
-    (letters "op=count" reads Unfinished)
-    ∷ (lines ("op=revoke" ∷ []) ++ letters "id=0" reads Unfinished)
-    ∷ (lines ("op=revoke" ∷ "id=0" ∷ []) reads Got (revoke 0) 15)
+    (letters "op=count" reads Err Unfinished)
+    ∷ (lines ("op=revoke" ∷ []) ++ letters "id=0" reads Err Unfinished)
+    ∷ (lines ("op=revoke" ∷ "id=0" ∷ []) reads Ok (revoke 0, 15))
     -- a proper beginning, of the op line, of a key, of a block
-    ∷ (letters "" reads Unfinished)
-    ∷ (letters "op=re" reads Unfinished)
-    ∷ (lines ("op=revoke" ∷ []) ++ letters "i" reads Unfinished)
-    ∷ (lines ("op=adopt" ∷ "id=0" ∷ "owner=4" ∷ []) reads Unfinished)
+    ∷ (letters "" reads Err Unfinished)
+    ∷ (letters "op=re" reads Err Unfinished)
+    ∷ (lines ("op=revoke" ∷ []) ++ letters "i" reads Err Unfinished)
+    ∷ (lines ("op=adopt" ∷ "id=0" ∷ "owner=4" ∷ []) reads Err Unfinished)
     -- a port of 32 bits, and one too large
-    ∷ (lines ("op=resolve" ∷ "port=4294967295" ∷ []) reads Got (resolve 4294967295) 27)
-    ∷ (lines ("op=resolve" ∷ "port=4294967296" ∷ []) reads Wrong)
+    ∷ (lines ("op=resolve" ∷ "port=4294967295" ∷ []) reads Ok (resolve 4294967295, 27))
+    ∷ (lines ("op=resolve" ∷ "port=4294967296" ∷ []) reads Err Wrong)
     -- another value of 64 bits, and one too large
-    ∷ (lines ("op=read" ∷ "lease=18446744073709551615" ∷ []) reads Got (read 18446744073709551615) 35)
-    ∷ (lines ("op=read" ∷ "lease=18446744073709551616" ∷ []) reads Wrong)
+    ∷ (lines ("op=read" ∷ "lease=18446744073709551615" ∷ []) reads Ok (read 18446744073709551615, 35))
+    ∷ (lines ("op=read" ∷ "lease=18446744073709551616" ∷ []) reads Err Wrong)
     -- 20 digits, and 21; no digit
-    ∷ (lines ("op=observe" ∷ "id=00000000000000000007" ∷ []) reads Got (observe 7) 35)
-    ∷ (lines ("op=observe" ∷ "id=000000000000000000007" ∷ []) reads Wrong)
-    ∷ (lines ("op=observe" ∷ "id=" ∷ []) reads Wrong)
+    ∷ (lines ("op=observe" ∷ "id=00000000000000000007" ∷ []) reads Ok (observe 7, 35))
+    ∷ (lines ("op=observe" ∷ "id=000000000000000000007" ∷ []) reads Err Wrong)
+    ∷ (lines ("op=observe" ∷ "id=" ∷ []) reads Err Wrong)
     -- an unknown op, another case, a blank, no key's line, keys in another order, a key left out
-    ∷ (lines ("op=erase" ∷ []) reads Wrong)
-    ∷ (lines ("Op=count" ∷ []) reads Wrong)
-    ∷ (lines ("op=count " ∷ []) reads Wrong)
-    ∷ (lines ("op=release" ∷ "id=0" ∷ []) reads Wrong)
-    ∷ (lines ("op=adopt" ∷ "owner=4" ∷ "id=0" ∷ "generation=1" ∷ []) reads Wrong)
-    ∷ (lines ("op=publish" ∷ "owner=4" ∷ "port=7" ∷ "payload=900" ∷ []) reads Wrong)
+    ∷ (lines ("op=erase" ∷ []) reads Err Wrong)
+    ∷ (lines ("Op=count" ∷ []) reads Err Wrong)
+    ∷ (lines ("op=count " ∷ []) reads Err Wrong)
+    ∷ (lines ("op=release" ∷ "id=0" ∷ []) reads Err Wrong)
+    ∷ (lines ("op=adopt" ∷ "owner=4" ∷ "id=0" ∷ "generation=1" ∷ []) reads Err Wrong)
+    ∷ (lines ("op=publish" ∷ "owner=4" ∷ "port=7" ∷ "payload=900" ∷ []) reads Err Wrong)
     -- the block ends where its last line does, whatever comes then
-    ∷ (lines ("op=adopt" ∷ "id=0" ∷ "owner=4" ∷ "generation=1" ∷ "payload=9" ∷ []) reads Got (adopt 0 4 1) 35)
-    ∷ (lines ("op=replace" ∷ "id=0" ∷ "owner=4" ∷ "generation=1" ∷ "payload=9" ∷ []) reads Got (replace 0 4 1 9) 47)
+    ∷ (lines ("op=adopt" ∷ "id=0" ∷ "owner=4" ∷ "generation=1" ∷ "payload=9" ∷ []) reads Ok (adopt 0 4 1, 35))
+    ∷ (lines ("op=replace" ∷ "id=0" ∷ "owner=4" ∷ "generation=1" ∷ "payload=9" ∷ []) reads Ok (replace 0 4 1 9, 47))
     ∷ []
 
 -- each of them is read so
 pub samples_read : map (λ x. block_at x.text 0) samples ≡ map (λ x. x.finds) samples
-unfolding block_at command_of fields_at field_at op_at first_row row_at word_at compared key_line_at line_at value_at scan key_text key_limit
+unfolding block_at lines_at command_of fields_at field_at op_at first_row row_at word_at compared key_line_at line_at value_at scan key_text key_limit
 samples_read = refl
 
 -- the answers that the whole case has not: numbers without leading zeros, every value of a reading, refusals

@@ -1,12 +1,9 @@
 -- Key lines one after the other: what they are, what reading them finds, and the lines that are written.
 -- Assumes nothing.
-use Rattle.std.specs.Prelude.{ℕ, zero, suc, ◌≤◌, ◌≡◌, cond, List, [], ◌∷◌, ◌++◌, eqb}
-use Rattle.text.specs.Reading.{Reading, got, Form, Then, then_read}
+use Rattle.std.specs.Prelude.{ℕ, zero, suc, ◌≤◌, ◌≡◌, cond, List, [], ◌∷◌, ◌++◌, eqb, Ok}
+use Rattle.text.specs.Reading.{Reading, Form, Then, then_read}
 use Rattle.text.specs.Keys.{no_key, key_limit}
 use Rattle.text.specs.Lines.{KeyLine, key_line_at, line_text}
-use Rattle.text.specs.Value.{value_reading}
-use Rattle.text.specs.declared.Value.{Value}
-use Rattle.text.specs.declared.Value.TheVariants.{Got}
 use Rattle.blocks.specs.Saying.{Saying, said}
 
 -- a key's line says its value; no key has no line, and the value 0
@@ -31,12 +28,12 @@ Fitting (c ∷ cs) (v ∷ vs) = (v ≤ key_limit c) × Fitting cs vs
 
 -- what reading finds
 
-unfoldable pub field_at : ℕ → List ℕ → ℕ → Value
-field_at code s at = cond (eqb code no_key) (Got 0 at) (key_line_at code s at)
+unfoldable pub field_at : ℕ → List ℕ → ℕ → Reading ℕ
+field_at code s at = cond (eqb code no_key) (Ok (0, at)) (key_line_at code s at)
 
 unfoldable pub fields_at : List ℕ → List ℕ → ℕ → Reading (List ℕ)
-fields_at [] s at = got [] at
-fields_at (c ∷ cs) s at = then_read (value_reading (field_at c s at)) (λ v next. said (λ us. v ∷ us) (fields_at cs s next))
+fields_at [] s at = Ok ([], at)
+fields_at (c ∷ cs) s at = then_read (field_at c s at) (λ v next. said (λ us. v ∷ us) (fields_at cs s next))
 
 -- what is written: values without leading zeros
 

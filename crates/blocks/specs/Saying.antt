@@ -1,7 +1,7 @@
 -- A form whose texts are taken to say something else: a function of what they say.
 -- Assumes nothing.
-use Rattle.std.specs.Prelude.{ℕ, ◌≡◌, List}
-use Rattle.text.specs.Reading.{Reading, unfinished, wrong, got, Form}
+use Rattle.std.specs.Prelude.{ℕ, ◌≡◌, List, Ok, Err}
+use Rattle.text.specs.Reading.{Reading, Form}
 
 module _ {A B : Type 0} where
   pub record Saying (f : A → B) (F : Form A) (w : List ℕ) (b : B) : Type 0 where
@@ -10,6 +10,5 @@ module _ {A B : Type 0} where
     pub meant : f says ≡ b
 
   abbrev pub said : (A → B) → Reading A → Reading B
-  said f unfinished = unfinished
-  said f wrong = wrong
-  said f (got a next) = got (f a) next
+  said f (Err e) = Err e
+  said f (Ok (a, next)) = Ok (f a, next)

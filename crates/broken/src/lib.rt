@@ -10,11 +10,11 @@ ghost use Rattle.store.specs.Columns.{columns_of};
 ghost use Rattle.store.specs.Answers.{applied_of};
 ghost use Rattle.broken.specs.declared.Fault.TheVariants.{Nobody};
 
-use rules::{Command, Port, Refusal, Response};
-use store::{Applied, PublicationStore};
+use rules::{Answered, Command, Port, Refusal, Response};
+use store::PublicationStore;
 
 // What is wrong with a broker.
-#[derive(Clone, Copy)]
+#[derive(Clone, Copy, PartialEq, Eq)]
 pub enum Fault {
     // Nothing: our broker, untouched.
     Nobody,
@@ -39,145 +39,123 @@ pub enum Fault {
 }
 
 // A command, played by the broker with that fault. Where nobody is at fault it is ours.
-pub fn play(fault: Fault, store: PublicationStore, command: Command) -> Applied
+pub fn play(
+    fault: Fault,
+    store: PublicationStore,
+    command: Command,
+) -> Answered<Response, PublicationStore>
     ensures { fault ≡ Nobody → result ≡ applied_of (columns_of store) command }
 {
+    let right = store.apply(command);
     match fault {
-        Fault::Nobody => store.apply(command),
-        Fault::RefusesEverything => refuses_everything(store, command),
-        Fault::KeepsLeases => keeps_leases(store, command),
-        Fault::DropsLeases => drops_leases(store, command),
-        Fault::TestsRetained => tests_retained(store, command),
-        Fault::LeavesHandle => leaves_handle(store, command),
-        Fault::SameHandle
-        | Fault::InventsCount
-        | Fault::SixForNeverGiven
-        | Fault::OtherHandleBack => answers_wrong(fault, store, command),
+        Fault::Nobody => right,
+        Fault::RefusesEverything => Answered {
+            answer: unknown(command),
+            table: store,
+        },
+        Fault::SameHandle => Answered {
+            answer: same_handle(right.answer),
+            table: right.table,
+        },
+        Fault::KeepsLeases => keeps_leases(store, command, right),
+        Fault::DropsLeases => drops_leases(command, right),
+        Fault::InventsCount => Answered {
+            answer: invented(right.answer, right.table),
+            table: right.table,
+        },
+        Fault::TestsRetained => tests_retained(store, command, right),
+        Fault::SixForNeverGiven => Answered {
+            answer: six_for_never_given(command, right.answer),
+            table: right.table,
+        },
+        Fault::LeavesHandle => leaves_handle(command, right),
+        Fault::OtherHandleBack => Answered {
+            answer: other_handle_back(command, right.answer),
+            table: right.table,
+        },
     }
 }
 
-fn refuses_everything(store: PublicationStore, command: Command) -> Applied {
-    Applied {
-        response: unknown(command),
-        store: store,
-    }
-}
+// Faults of the answer: the store is the right one, or the one before where every command is refused.
 
 fn unknown(command: Command) -> Response {
     match command {
-        Command::Publish { payload, .. } => Response::Returned(Refusal::Unknown, payload),
-        Command::Replace { payload, .. } => Response::Returned(Refusal::Unknown, payload),
+        Command::Publish { payload, .. } | Command::Replace { payload, .. } => {
+            Response::Returned(Refusal::Unknown, payload)
+        }
         _ => Response::Refused(Refusal::Unknown),
     }
 }
 
-// Faults of the answer: the store is the right one.
-
-fn answers_wrong(fault: Fault, store: PublicationStore, command: Command) -> Applied {
-    let right = store.apply(command);
-    let response = right.response;
-    let left = right.store;
-    Applied {
-        response: spoiled(fault, command, response, left.count as u64),
-        store: left,
-    }
-}
-
-fn spoiled(fault: Fault, command: Command, right: Response, count: u64) -> Response {
-    match fault {
-        Fault::SameHandle => same_handle(right),
-        Fault::InventsCount => invented(right, count),
-        Fault::SixForNeverGiven => six_for_never_given(command, right),
-        Fault::OtherHandleBack => other_handle_back(command, right),
+fn same_handle(right: Response) -> Response {
+    match right {
+        Response::Handle(_) => Response::Handle(900),
         _ => right,
     }
 }
 
-fn same_handle(right: Response) -> Response {
-    if let Response::Handle(_) = right {
-        return Response::Handle(900);
+fn invented(right: Response, left: PublicationStore) -> Response {
+    match right {
+        Response::Count(_) => Response::Count(left.registry.count as u64),
+        _ => right,
     }
-    right
-}
-
-fn invented(right: Response, count: u64) -> Response {
-    if let Response::Count(_) = right {
-        return Response::Count(count);
-    }
-    right
 }
 
 fn six_for_never_given(command: Command, right: Response) -> Response {
-    if let Response::Refused(why) = right {
-        if let Refusal::Unknown = why {
-            return match command {
-                Command::Release { .. } => Response::Refused(Refusal::Released),
-                Command::Read { .. } => Response::Refused(Refusal::Released),
-                _ => right,
-            };
+    match command {
+        Command::Release { .. } | Command::Read { .. }
+            if right == Response::Refused(Refusal::Unknown) => {
+            Response::Refused(Refusal::Released)
         }
+        _ => right,
     }
-    right
 }
 
 fn other_handle_back(command: Command, right: Response) -> Response {
-    if let Command::Publish { .. } = command {
-        if let Response::Returned(why, _) = right {
-            return Response::Returned(why, 0);
-        }
+    match (command, right) {
+        (Command::Publish { .. }, Response::Returned(why, _)) => Response::Returned(why, 0),
+        _ => right,
     }
-    right
 }
 
 // Faults of the store: the answer is the right one.
 
-fn keeps_leases(store: PublicationStore, command: Command) -> Applied {
-    let right = store.apply(command);
-    if let Command::Release { .. } = command {
-        let response = right.response;
-        return Applied {
-            response: response,
-            store: store,
-        };
+fn keeps_leases(
+    store: PublicationStore,
+    command: Command,
+    right: Answered<Response, PublicationStore>,
+) -> Answered<Response, PublicationStore> {
+    match command {
+        Command::Release { .. } => Answered {
+            answer: right.answer,
+            table: store,
+        },
+        _ => right,
     }
-    right
 }
 
-fn drops_leases(store: PublicationStore, command: Command) -> Applied {
-    let right = store.apply(command);
-    if let Command::Release { .. } = command {
-        let response = right.response;
-        if let Response::Done = response {
-            let mut left = right.store;
-            let fresh = PublicationStore::new();
-            let leases = fresh.leases;
-            left.leases = leases;
-            left.active = 0;
-            return Applied {
-                response: response,
-                store: left,
-            };
-        }
+fn drops_leases(
+    command: Command,
+    mut right: Answered<Response, PublicationStore>,
+) -> Answered<Response, PublicationStore> {
+    if matches!(command, Command::Release { .. }) && right.answer == Response::Done {
+        let empty = PublicationStore::new();
+        let leases = empty.registry.leases;
+        right.table.registry.leases = leases;
+        right.table.registry.active = 0;
     }
     right
 }
 
 // The handle is back in its cell after a reclaim. The product's calls test their table, so the next command is answered BadTable; without
 // that test no answer would show it (crates/rules/proofs/LeftBehind.antt).
-fn leaves_handle(store: PublicationStore, command: Command) -> Applied {
-    let right = store.apply(command);
-    if let Command::Reclaim { id } = command {
-        let response = right.response;
-        if let Response::Handle(h) = response {
-            let at = id.0 as usize;
-            if at < 96 {
-                let mut left = right.store;
-                left.payloads[at] = h;
-                return Applied {
-                    response: response,
-                    store: left,
-                };
-            }
+fn leaves_handle(
+    command: Command,
+    mut right: Answered<Response, PublicationStore>,
+) -> Answered<Response, PublicationStore> {
+    if let (Command::Reclaim { id }, Response::Handle(handle)) = (command, right.answer) {
+        if let Some(cell) = right.table.payloads.get_mut(id.0 as usize) {
+            *cell = handle;
         }
     }
     right
@@ -185,29 +163,25 @@ fn leaves_handle(store: PublicationStore, command: Command) -> Applied {
 
 // A fault of a test.
 
-fn tests_retained(store: PublicationStore, command: Command) -> Applied {
-    if let Command::Publish { port, payload, .. } = command {
-        if store.count < 96 {
-            if occupied(store, port) {
-                return Applied {
-                    response: Response::Returned(Refusal::Conflict, payload),
-                    store: store,
-                };
+fn tests_retained(
+    store: PublicationStore,
+    command: Command,
+    right: Answered<Response, PublicationStore>,
+) -> Answered<Response, PublicationStore> {
+    match command {
+        Command::Publish { port, payload, .. }
+            if store.registry.count < 96 && is_occupied(&store, port) => {
+            Answered {
+                answer: Response::Returned(Refusal::Conflict, payload),
+                table: store,
             }
         }
+        _ => right,
     }
-    store.apply(command)
 }
 
 // Whether a retained publication has the port, visible or not.
-fn occupied(store: PublicationStore, port: Port) -> bool {
-    for i in 0..96 {
-        let e = store.publications[i];
-        if e.retained {
-            if e.port.0 == port.0 {
-                return true;
-            }
-        }
-    }
-    false
+fn is_occupied(store: &PublicationStore, port: Port) -> bool {
+    store.registry.publications.iter().any(|publication| publication.retained
+        && publication.port == port)
 }

@@ -13,6 +13,7 @@ use Rattle.columns.proofs.inner.rows.lease_lookup.Symbol as inner-rows-lease_loo
 use Rattle.columns.proofs.inner.rows.reclaim_verdict.Symbol as inner-rows-reclaim_verdict
 use Rattle.columns.proofs.inner.rows.revoke_verdict.Symbol as inner-rows-revoke_verdict
 use Rattle.columns.proofs.inner.rows.slot_publish_verdict.Symbol as inner-rows-slot_publish_verdict
+use Rattle.columns.proofs.inner.search.known.Symbol as inner-search-known
 use Rattle.columns.proofs.inner.search.lease_place.Symbol as inner-search-lease_place
 use Rattle.columns.proofs.inner.search.port_place.Symbol as inner-search-port_place
 use Rattle.columns.proofs.is_sound.Symbol as is_sound
@@ -20,7 +21,6 @@ use Rattle.columns.proofs.records.blank_lease.Symbol as records-blank_lease
 use Rattle.columns.proofs.records.blank_publication.Symbol as records-blank_publication
 use Rattle.columns.proofs.inner.rows.publish_verdict.Symbol as inner-rows-publish_verdict
 use Rattle.columns.proofs.is_store_sound.Symbol as is_store_sound
-use Rattle.columns.proofs.records.is_both.Symbol as records-is_both
 use Rattle.columns.proofs.records.replace_verdict.Symbol as records-replace_verdict
 use Rattle.columns.proofs.records.holds_port.Symbol as records-holds_port
 use Rattle.columns.proofs.records.holds_slot.Symbol as records-holds_slot
@@ -33,8 +33,9 @@ use Rattle.columns.proofs.records.has_id.Symbol as records-has_id
 use Rattle.columns.proofs.records.names_publication.Symbol as records-names_publication
 use Rattle.columns.proofs.records.is_kept.Symbol as records-is_kept
 use Rattle.columns.proofs.records.mark_of.Symbol as records-mark_of
-use Rattle.columns.proofs.records.is_either.Symbol as records-is_either
 use Rattle.columns.proofs.records.is_in_order.Symbol as records-is_in_order
+use Rattle.columns.proofs.records.is_both.Symbol as records-is_both
+use Rattle.columns.proofs.records.is_either.Symbol as records-is_either
 use Rattle.columns.proofs.records.is_nobody.Symbol as records-is_nobody
 use Rattle.columns.proofs.records.is_blank_record.Symbol as records-is_blank_record
 use Rattle.columns.proofs.records.is_blank_lease.Symbol as records-is_blank_lease
@@ -77,6 +78,9 @@ inner-rows-revoke_verdict-stands = link.linked-columns::inner::rows::revoke_verd
 pub inner-rows-slot_publish_verdict-stands : Stands inner-rows-slot_publish_verdict.code
 inner-rows-slot_publish_verdict-stands = link.linked-columns::inner::rows::slot_publish_verdict
 
+pub inner-search-known-stands : Stands inner-search-known.code
+inner-search-known-stands = link.linked-columns::inner::search::known
+
 pub inner-search-lease_place-stands : Stands inner-search-lease_place.code
 inner-search-lease_place-stands = link.linked-columns::inner::search::lease_place
 
@@ -97,9 +101,6 @@ inner-rows-publish_verdict-stands = link.linked-columns::inner::rows::publish_ve
 
 pub is_store_sound-stands : Stands is_store_sound.code
 is_store_sound-stands = link.linked-columns::is_store_sound
-
-pub records-is_both-stands : Stands records-is_both.code
-records-is_both-stands = link.linked-columns::records::is_both
 
 pub records-replace_verdict-stands : Stands records-replace_verdict.code
 records-replace_verdict-stands = link.linked-columns::records::replace_verdict
@@ -137,14 +138,8 @@ records-is_kept-stands = link.linked-columns::records::is_kept
 pub records-mark_of-stands : Stands records-mark_of.code
 records-mark_of-stands = link.linked-columns::records::mark_of
 
-pub records-is_either-stands : Stands records-is_either.code
-records-is_either-stands = link.linked-columns::records::is_either
-
 pub records-is_in_order-stands : Stands records-is_in_order.code
 records-is_in_order-stands = link.linked-columns::records::is_in_order
-
-pub records-is_nobody-stands : Stands records-is_nobody.code
-records-is_nobody-stands = link.linked-columns::records::is_nobody
 
 pub records-is_blank_record-stands : Stands records-is_blank_record.code
 records-is_blank_record-stands = link.linked-columns::records::is_blank_record
@@ -157,3 +152,12 @@ records-is_own_cell-stands = link.linked-columns::records::is_own_cell
 
 pub records-is_blank_cell-stands : Stands records-is_blank_cell.code
 records-is_blank_cell-stands = link.linked-columns::records::is_blank_cell
+
+pub records-is_both-stands : Stands records-is_both.code
+records-is_both-stands = link.linked-columns::records::is_both
+
+pub records-is_either-stands : Stands records-is_either.code
+records-is_either-stands = link.linked-columns::records::is_either
+
+pub records-is_nobody-stands : Stands records-is_nobody.code
+records-is_nobody-stands = link.linked-columns::records::is_nobody

@@ -1,20 +1,16 @@
 -- A row of a table by the decision on the one record that it looks at.
 -- Assumes nothing.
-use Prim.Native.Nat.{ℕ, ◌≤◌, ◌<◌}
+use Rattle.std.specs.Prelude.{Option, Some, Result, Ok, Err}
+use Prim.Native.Nat.{ℕ}
 use mathlib.Core.Path.{◌≡◌, refl, sym, ap, ◌∙◌}
 use mathlib.Core.Bool.{Bool, true, false, not, ◌&&◌, ◌||◌}
 use mathlib.Core.List.{List, [], ◌∷◌, ◌++◌}
-use borrow.Author.Tests.{le-leb, lt-leb}
-use lib.Dec.{leb, eqb}
-use lib.ListN.{length, take}
-use lib.Seq.{get_or-take}
-use Rattle.lists.proofs.Scan.{length-take_sized}
+use lib.Dec.{eqb}
 use Rattle.rules.specs.Limits.{Limits}
 use Rattle.rules.specs.Answers as rows
 use Rattle.rules.specs.Answers.{Test, ◌⇒◌, verdict}
-use Rattle.rules.specs.Table.{Registry, blank_publication, at}
+use Rattle.rules.specs.Table.{Registry, at}
 use Rattle.rules.specs.Conditions.{unknown, owned_by, leased, full, port_held, slot_held}
-use Rattle.rules.specs.Columns.{RegistryColumns, used_registry}
 use Rattle.rules.specs.Rows.{publish_row, adopt_row, reclaim_row}
 use Rattle.rules.specs.RegistryRows.{slot_publish_row}
 use Rattle.rules.specs.declared.Publication.{Publication}
@@ -25,18 +21,8 @@ use Rattle.rules.specs.declared.Refusal.{Refusal}
 use Rattle.rules.specs.declared.Refusal.TheVariants.{Conflict, Relied, Visible, Released, Capacity, InvalidState}
 use Rattle.rules.proofs.Clear.{pass≢stop, not_first, not_later}
 use Rattle.columns.specs.Columns.{alone, first}
-use Rattle.columns.specs.Verdicts.{verdict_of}
-use Rattle.columns.specs.declared.Verdict.{Verdict}
-use Rattle.columns.specs.declared.Verdict.TheVariants.{Stop, Pass}
-use Rattle.columns.proofs.Verdicts.{told_pass, told_stop}
-
--- whether an identifier was given out, where the first n of an array are in use
-module _ {A : Type 0} (n size : ℕ) (l : List A) (fits : n ≤ size) (long : length l ≡ size) {i : ℕ} where
-  pub is_unknown : n ≤ i → leb (length (take n l)) i ≡ true
-  is_unknown h = rw (length-take_sized n size l fits long) (le-leb n i h)
-
-  pub is_known : i < n → leb (length (take n l)) i ≡ false
-  is_known h = rw (length-take_sized n size l fits long) (lt-leb n i h)
+use Rattle.columns.specs.Verdicts.{known_of, verdict_of}
+use Rattle.columns.proofs.Verdicts.{known_there, known_is, told_pass, told_stop}
 
 -- tests before others: what stops there stops the whole, and what passes there leaves it to the others
 
@@ -58,49 +44,44 @@ pub record Stands (t : Registry) (p : PublicationId) (e : Publication) : Type 0 
   pub known : unknown t p ≡ false
   pub there : at t.publications p ≡ e
 
-pub stands : (c : RegistryColumns) (size : ℕ) (p : PublicationId) → c.count ≤ size → length c.publications ≡ size → p.0 < c.count
-    → Stands (used_registry c) p (at c.publications p)
-stands c size p fits long h =
-    record {
-      known = is_known c.count size c.publications fits long h;
-      there = get_or-take c.count c.publications p.0 blank_publication h;
-    }
+pub stands : (t : Registry) (p : PublicationId) {w : Option Publication} → w ≡ known_of t.publications p → {e : Publication} → w ≡ Some e → Stands t p e
+stands t p k s = record { known = known_there t.publications p k s; there = known_is t.publications p k s }
 
 module _ (L : Limits) {t : Registry} {p : PublicationId} {e : Publication} (s : Stands t p e) where
   abbrev relies : List Test
   relies = (leased t p ⇒ Relied) ∷ []
 
-  module _ (o : Owner) (g : ℕ) {w : Verdict} (d : w ≡ verdict_of (verdict (adopt_row L (used_registry (alone e [] 0 0)) first o g))) where
+  module _ (o : Owner) (g : ℕ) {w : Result (Unit {0}) Refusal} (d : w ≡ verdict_of (verdict (adopt_row L (alone e [] 0) first o g))) where
     abbrev adopt_tests : List Test
     adopt_tests = (not e.retained ⇒ Released) ∷ (not (owned_by o 0 e && eqb g 1) ⇒ InvalidState) ∷ []
 
-    pub adopt_stopped : {r : Refusal} → w ≡ Stop r → Stop r ≡ verdict_of (verdict (adopt_row L t p o g))
+    pub adopt_stopped : {r : Refusal} → w ≡ Err r → Err r ≡ verdict_of (verdict (adopt_row L t p o g))
     adopt_stopped q =
-        let f = stops_before adopt_tests nobody_relies relies refl (told_stop (verdict (adopt_row L (used_registry (alone e [] 0 0)) first o g)) d q) in
+        let f = stops_before adopt_tests nobody_relies relies refl (told_stop (verdict (adopt_row L (alone e [] 0) first o g)) d q) in
         rw (s.known, s.there) (sym (ap verdict_of f))
 
-    pub adopt_relies : w ≡ Pass → {v : Verdict} → v ≡ verdict_of (verdict relies) → v ≡ verdict_of (verdict (adopt_row L t p o g))
+    pub adopt_relies : w ≡ Ok tt → {v : Result (Unit {0}) Refusal} → v ≡ verdict_of (verdict relies) → v ≡ verdict_of (verdict (adopt_row L t p o g))
     adopt_relies q r =
-        let f = passes_before adopt_tests nobody_relies relies (told_pass (verdict (adopt_row L (used_registry (alone e [] 0 0)) first o g)) d q) in
+        let f = passes_before adopt_tests nobody_relies relies (told_pass (verdict (adopt_row L (alone e [] 0) first o g)) d q) in
         rw (s.known, s.there) (r ∙ sym (ap verdict_of f))
 
-  module _ {w : Verdict} (d : w ≡ verdict_of (verdict (reclaim_row L (used_registry (alone e [] 0 0)) first))) where
+  module _ {w : Result (Unit {0}) Refusal} (d : w ≡ verdict_of (verdict (reclaim_row L (alone e [] 0) first))) where
     abbrev reclaim_tests : List Test
     reclaim_tests = (e.visible ⇒ Visible) ∷ (not e.retained ⇒ Released) ∷ []
 
-    pub reclaim_stopped : {r : Refusal} → w ≡ Stop r → Stop r ≡ verdict_of (verdict (reclaim_row L t p))
+    pub reclaim_stopped : {r : Refusal} → w ≡ Err r → Err r ≡ verdict_of (verdict (reclaim_row L t p))
     reclaim_stopped q =
-        let f = stops_before reclaim_tests nobody_relies relies refl (told_stop (verdict (reclaim_row L (used_registry (alone e [] 0 0)) first)) d q) in
+        let f = stops_before reclaim_tests nobody_relies relies refl (told_stop (verdict (reclaim_row L (alone e [] 0) first)) d q) in
         rw (s.known, s.there) (sym (ap verdict_of f))
 
-    pub reclaim_relies : w ≡ Pass → {v : Verdict} → v ≡ verdict_of (verdict relies) → v ≡ verdict_of (verdict (reclaim_row L t p))
+    pub reclaim_relies : w ≡ Ok tt → {v : Result (Unit {0}) Refusal} → v ≡ verdict_of (verdict relies) → v ≡ verdict_of (verdict (reclaim_row L t p))
     reclaim_relies q r =
-        let f = passes_before reclaim_tests nobody_relies relies (told_pass (verdict (reclaim_row L (used_registry (alone e [] 0 0)) first)) d q) in
+        let f = passes_before reclaim_tests nobody_relies relies (told_pass (verdict (reclaim_row L (alone e [] 0) first)) d q) in
         rw (s.known, s.there) (r ∙ sym (ap verdict_of f))
 
 -- a slot that is held is a conflict as well
-module _ (L : Limits) (t : Registry) (q : Port) (s : ℕ) {w : Verdict} (d : w ≡ verdict_of (verdict (publish_row L t q))) where
-  pub slot_stopped : {r : Refusal} → w ≡ Stop r → Stop r ≡ verdict_of (verdict (slot_publish_row L t q s))
+module _ (L : Limits) (t : Registry) (q : Port) (s : ℕ) {w : Result (Unit {0}) Refusal} (d : w ≡ verdict_of (verdict (publish_row L t q))) where
+  pub slot_stopped : {r : Refusal} → w ≡ Err r → Err r ≡ verdict_of (verdict (slot_publish_row L t q s))
   slot_stopped {r} e = sym (ap verdict_of (go (full t L) (port_held t q) (told_stop (verdict (publish_row L t q)) d e)))
     where
       go : (a b : Bool) → verdict ((a ⇒ Capacity) ∷ (b ⇒ Conflict) ∷ []) ≡ rows.stop r → verdict ((a ⇒ Capacity) ∷ (b || slot_held t s ⇒ Conflict) ∷ []) ≡ rows.stop r
@@ -108,7 +89,7 @@ module _ (L : Limits) (t : Registry) (q : Port) (s : ℕ) {w : Verdict} (d : w �
       go false true f = f
       go false false f = absurd (pass≢stop r f)
 
-  pub slot_decides : w ≡ Pass → {b : Bool} → slot_held t s ≡ b → verdict_of (verdict ((b ⇒ Conflict) ∷ [])) ≡ verdict_of (verdict (slot_publish_row L t q s))
+  pub slot_decides : w ≡ Ok tt → {b : Bool} → slot_held t s ≡ b → verdict_of (verdict ((b ⇒ Conflict) ∷ [])) ≡ verdict_of (verdict (slot_publish_row L t q s))
   slot_decides e h =
       let p = told_pass (verdict (publish_row L t q)) d e in
       rw (not_first (full t L) Capacity ((port_held t q ⇒ Conflict) ∷ []) p, not_first (port_held t q) Conflict [] (not_later (full t L) Capacity ((port_held t q ⇒ Conflict) ∷ []) p), h)

@@ -1,5 +1,6 @@
 -- What each effect makes of the columns of a sound registry.
 -- Assumes nothing.
+use Rattle.std.specs.Prelude.{Option}
 use Prim.Native.Nat.{ℕ, ◌+◌, ◌-◌, ◌<◌}
 use mathlib.Core.Path.{◌≡◌, ap}
 use mathlib.Core.List.{List}
@@ -58,7 +59,7 @@ module _ {L : Limits} {c : RegistryColumns} (h : RegistryColumnsSound L c) where
       rw (← record_used L c h p.0, padded-set L.publications blank_publication (take c.count c.publications) p.0 (f (at c.publications p)) l, length-set, n, blanks, active_used L c h, blank_leases)
 
   -- one lease more
-  pub filled_lent : (p : PublicationId) (k : Consumer) → c.active < L.leases
+  pub filled_lent : (p : PublicationId) (k : Option Consumer) → c.active < L.leases
       → filled_registry L (and_lease (used_registry c) p k)
       ≡ with_leases c (set c.leases c.active (record { id = record { 0 = c.counter }; publication = p; consumer = k })) (c.active + 1) (c.counter + 1)
   filled_lent p k m =

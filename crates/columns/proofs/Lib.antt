@@ -1,6 +1,7 @@
 pub mod Verdicts
 pub mod Decisions
 pub mod Searches
+pub mod Slices
 pub mod Clauses
 pub mod Walk
 pub mod Rise

@@ -1,5 +1,6 @@
--- What a verdict that passes shows of the columns of a sound table: room for a record, a record that was given out, an active lease.
+-- What a verdict that passes shows of the columns of a sound table: room for a record, a record that was given out, an active lease; and what a lookup shows.
 -- Assumes nothing.
+use Rattle.std.specs.Prelude.{Option, Some, Result, Ok}
 use Prim.Native.Nat.{ℕ, ◌<◌}
 use mathlib.Core.Path.{◌≡◌, refl}
 use mathlib.Core.Bool.{true, false, not}
@@ -20,51 +21,54 @@ use Rattle.rules.specs.Conditions.{unknown, full, no_lease_left, is_lease, never
 use Rattle.rules.specs.Columns.{RegistryColumns, used_registry}
 use Rattle.rules.specs.Sound.{RegistryColumnsSound}
 use Rattle.rules.specs.Rows.{acquire_row, lease_row}
+use Rattle.rules.specs.declared.Publication.{Publication}
 use Rattle.rules.specs.declared.PublicationId.{PublicationId}
 use Rattle.rules.specs.declared.LeaseId.{LeaseId}
+use Rattle.rules.specs.declared.Refusal.{Refusal}
 use Rattle.rules.specs.declared.Refusal.TheVariants.{Unknown, Revoked, Released, Capacity}
 use Rattle.rules.proofs.Clear.{not_first, not_later}
 use Rattle.rules.proofs.Columns.{count_used, active_used, lease_used}
-use Rattle.columns.specs.Verdicts.{verdict_of, lookup_of}
-use Rattle.columns.specs.declared.Verdict.{Verdict}
-use Rattle.columns.specs.declared.Verdict.TheVariants.{Pass}
-use Rattle.columns.specs.declared.Lookup.{Lookup}
-use Rattle.columns.specs.declared.Lookup.TheVariants.{At}
-use Rattle.columns.proofs.Verdicts.{told_pass, looked_pass, looked_at}
+use Rattle.columns.specs.Verdicts.{known_of, verdict_of, lookup_of}
+use Rattle.columns.proofs.Verdicts.{known_there, told_pass, looked_pass, looked_at}
 
 module _ {L : Limits} {c : RegistryColumns} (h : RegistryColumnsSound L c) where
   -- a row that begins with Capacity: there is room for a publication
-  module _ (ts : List Test) {w : Verdict} (e : w ≡ verdict_of (verdict ((full (used_registry c) L ⇒ Capacity) ∷ ts))) where
-    pub publication_room : w ≡ Pass → c.count < L.publications
+  module _ (ts : List Test) {w : Result (Unit {0}) Refusal} (e : w ≡ verdict_of (verdict ((full (used_registry c) L ⇒ Capacity) ∷ ts))) where
+    pub publication_room : w ≡ Ok tt → c.count < L.publications
     publication_room t =
         omega (arith, count_used L c h, leb-false L.publications (length (take c.count c.publications)) (not_first (full (used_registry c) L) Capacity ts (told_pass (verdict ((full (used_registry c) L ⇒ Capacity) ∷ ts)) e t)))
 
   -- a row that begins with Unknown: the identifier was given out
-  module _ (p : PublicationId) (ts : List Test) {w : Verdict} (e : w ≡ verdict_of (verdict ((unknown (used_registry c) p ⇒ Unknown) ∷ ts))) where
-    pub known_below : w ≡ Pass → p.0 < c.count
+  module _ (p : PublicationId) (ts : List Test) {w : Result (Unit {0}) Refusal} (e : w ≡ verdict_of (verdict ((unknown (used_registry c) p ⇒ Unknown) ∷ ts))) where
+    pub known_below : w ≡ Ok tt → p.0 < c.count
     known_below t =
         omega (arith, count_used L c h, leb-false (length (take c.count c.publications)) p.0 (not_first (unknown (used_registry c) p) Unknown ts (told_pass (verdict ((unknown (used_registry c) p ⇒ Unknown) ∷ ts)) e t)))
 
+  -- a lookup that finds a publication: the identifier was given out
+  pub publication_below : (p : PublicationId) {w : Option Publication} → w ≡ known_of (take c.count c.publications) p → {e : Publication} → w ≡ Some e → p.0 < c.count
+  publication_below p k t =
+      omega (arith, count_used L c h, leb-false (length (take c.count c.publications)) p.0 (known_there (take c.count c.publications) p k t))
+
   -- acquire: there is room for a lease, and a number for it
-  module _ (p : PublicationId) {w : Verdict} (e : w ≡ verdict_of (verdict (acquire_row L (used_registry c) p))) where
-    some_left : w ≡ Pass → no_lease_left (used_registry c) L ≡ false
+  module _ (p : PublicationId) {w : Result (Unit {0}) Refusal} (e : w ≡ verdict_of (verdict (acquire_row L (used_registry c) p))) where
+    some_left : w ≡ Ok tt → no_lease_left (used_registry c) L ≡ false
     some_left t =
         not_first (no_lease_left (used_registry c) L) Capacity []
         (not_later (not (at (take c.count c.publications) p).visible) Revoked ((no_lease_left (used_registry c) L ⇒ Capacity) ∷ [])
         (not_later (unknown (used_registry c) p) Unknown ((not (at (take c.count c.publications) p).visible ⇒ Revoked) ∷ (no_lease_left (used_registry c) L ⇒ Capacity) ∷ [])
         (told_pass (verdict (acquire_row L (used_registry c) p)) e t)))
 
-    pub numbers_left : w ≡ Pass → c.counter < L.top
+    pub numbers_left : w ≡ Ok tt → c.counter < L.top
     numbers_left t =
         leb-false L.top c.counter (or_left (leb L.top c.counter) (leb L.leases (length (take c.active c.leases))) (some_left t))
 
-    pub lease_room : w ≡ Pass → c.active < L.leases
+    pub lease_room : w ≡ Ok tt → c.active < L.leases
     lease_room t =
         omega (arith, active_used L c h, leb-false L.leases (length (take c.active c.leases)) (or_right (leb L.top c.counter) (leb L.leases (length (take c.active c.leases))) (some_left t)))
 
   -- a lease that is looked up: it is active, at that place
-  module _ (i : LeaseId) {w : Lookup} (e : w ≡ lookup_of (verdict (lease_row L (used_registry c) i)) (first_place (is_lease i) (take c.active c.leases)))
-      {k : ℕ} (t : w ≡ At k) where
+  module _ (i : LeaseId) {w : Result ℕ Refusal} (e : w ≡ lookup_of (verdict (lease_row L (used_registry c) i)) (first_place (is_lease i) (take c.active c.leases)))
+      {k : ℕ} (t : w ≡ Ok k) where
     pub lease_passes : verdict (lease_row L (used_registry c) i) ≡ pass
     lease_passes = looked_pass (verdict (lease_row L (used_registry c) i)) (first_place (is_lease i) (take c.active c.leases)) e t
 

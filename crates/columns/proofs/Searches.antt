@@ -1,54 +1,37 @@
 -- Laws of a search of the first records of an array, place by place.
 -- Assumes nothing.
-use Prim.Native.Nat.{ℕ, ◌+◌, ◌≤◌, ◌<◌}
-use mathlib.Core.Path.{◌≡◌, refl}
+use Rattle.std.specs.Prelude.{Option, Some, None}
+use Prim.Native.Nat.{ℕ, ◌≤◌, ◌<◌}
+use mathlib.Core.Path.{◌≡◌}
 use mathlib.Core.Bool.{Bool, true, false}
 use mathlib.Core.List.{List}
 use native.Mathlib.Omega.{arith}
 use lib.ListN.{length, get_or, take, length-take}
-use lib.Seq.{take-take, get_or-take, length-take-le}
+use lib.Seq.{get_or-take}
+use Rattle.std.proofs.lemmas.List.{take_all}
 use Rattle.lists.specs.Search.{some_pass}
 use Rattle.lists.proofs.Search.{none_passes, first_passes}
-use Rattle.lists.proofs.Scan.{passes_at, first_is, first_below, none_yet}
+use Rattle.lists.proofs.Scan.{passes_at, first_is, first_below}
 use Rattle.columns.specs.Verdicts.{place_of}
-use Rattle.columns.specs.declared.Place.{Place}
-use Rattle.columns.specs.declared.Place.TheVariants.{Nowhere, At}
 use Rattle.columns.proofs.Verdicts.{none_there, one_there, place_there}
 
--- the search of the first n has come to i, and none before it passes
-pub record Searching {A : Type 0} (p : A → Bool) (l : List A) (n size i : ℕ) : Type 0 where
-  pub within : i ≤ n
-  pub fits : n ≤ size
-  pub long : length l ≡ size
-  pub none : some_pass p (take i l) ≡ false
-
-pub start : {A : Type 0} {p : A → Bool} {l : List A} {n size : ℕ} → n ≤ size → length l ≡ size → Searching p l n size 0
-start h k = record { within = omega arith; fits = h; long = k; none = refl }
-
-module _ {A : Type 0} {p : A → Bool} {l : List A} {n size i : ℕ} (s : Searching p l n size i) where
-  pub found : (d : A) → i < n → p (get_or l i d) ≡ true → At i ≡ place_of p (take n l)
+module _ {A : Type 0} (p : A → Bool) (l : List A) (i : ℕ) (none : some_pass p (take i l) ≡ false) where
+  -- the search has come to i, and none before it passes
+  pub found : (d : A) → i < length l → p (get_or l i d) ≡ true → Some i ≡ place_of p l
   unfolding place_of
-  found d h e =
-      let len : i < length (take n l) = rw (length-take-le n l (omega arith)) h in
-      let here : p (get_or (take n l) i d) ≡ true = rw (get_or-take n l i d h) e in
-      let none : some_pass p (take i (take n l)) ≡ false = rw (take-take i n l s.within) s.none in
-      rw (passes_at p (take n l) i d len here, first_is p (take n l) i d len none here)
+  found d h e = rw (passes_at p l i d h e, first_is p l i d h none e)
 
-  pub on : (d : A) → i < n → p (get_or l i d) ≡ false → Searching p l n size (i + 1)
-  on d h e =
-      record { within = omega arith; fits = s.fits; long = s.long; none = none_yet p l i d (omega arith) s.none e }
-
-  pub over : n ≤ i → Nowhere ≡ place_of p (take n l)
+  pub over : length l ≤ i → None ≡ place_of p l
   unfolding place_of
-  over h = let e : i ≡ n = omega arith in rw (← e, s.none)
+  over h = let e : some_pass p l ≡ false = rw (take_all i l h) at none in rw e
 
 -- What a search of the first i has found.
 
-module _ {A : Type 0} (p : A → Bool) (d : A) (xs : List A) (i : ℕ) {w : Place} (e : w ≡ place_of p (take i xs)) where
-  pub none_before : p d ≡ false → w ≡ Nowhere → (j : ℕ) → j < i → p (get_or xs j d) ≡ false
+module _ {A : Type 0} (p : A → Bool) (d : A) (xs : List A) (i : ℕ) {w : Option ℕ} (e : w ≡ place_of p (take i xs)) where
+  pub none_before : p d ≡ false → w ≡ None → (j : ℕ) → j < i → p (get_or xs j d) ≡ false
   none_before n t j h = rw (← get_or-take i xs j d h) (none_passes p (take i xs) d n (none_there p (take i xs) e t) j)
 
-  module _ {k : ℕ} (t : w ≡ At k) where
+  module _ {k : ℕ} (t : w ≡ Some k) where
     pub found_below : k < i
     found_below =
         let l : length (take i xs) ≤ i = rw length-take (omega arith) in

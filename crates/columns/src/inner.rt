@@ -10,19 +10,15 @@ use rules::Lease;
 pub mod rows;
 pub mod search;
 
-// The first n leases without the one at a place, and blanks.
+// The first n leases without the one at a place, and blanks. The column comes whole, and by value as tables do: the place past the last is made blank.
 pub fn close_up(mut leases: [Lease; 128], n: usize, at: usize) -> [Lease; 128]
     requires { (at < n) × (n ≤ 128) × (padded 128 blank_lease (take n leases) ≡ leases) }
     ensures { result ≡ padded 128 blank_lease (remove (take n leases) at) }
 {
     let last = n - 1;
-    let mut i = at;
-    while i < last {
-        let l = leases[i + 1];
-        leases[i] = l;
-        i += 1;
+    for i in at..last {
+        leases[i] = leases[i + 1];
     }
-    let b = records::blank_lease();
-    leases[last] = b;
+    leases[last] = records::blank_lease();
     leases
 }

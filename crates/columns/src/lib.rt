@@ -1,8 +1,10 @@
 // What code reads of the columns of a table: the test for 9 and, in `inner`, searches and the verdict of each row. The registry and
 // the store both build on it.
 //
-// There is no table here: each function takes the columns that it reads, as they stand in fixed arrays, with the numbers of records
-// in use.
+// There is no table here: a search or a verdict takes the records in use that it reads, the test for 9 all columns, as they stand in
+// fixed arrays, with the numbers of records in use.
+//
+// Nothing that an entry point reaches calls a function of the library: docs/DESIGN-PASS.md says why, and what stands in its place.
 #![tactic(auto)]
 
 ghost use Rattle.std.specs.Prelude.{◌≡◌};
@@ -11,33 +13,12 @@ ghost use Rattle.rules.specs.SoundTest.{registry_test, store_test};
 ghost use Rattle.columns.specs.Columns.{columns_of, store_columns_of};
 
 use inner::search;
-use rules::{Lease, Publication, Refusal};
+use rules::{Lease, Publication};
 
 pub mod inner;
 pub mod records;
 
-// Where a search ended.
-#[derive(Clone, Copy)]
-pub enum Place {
-    Nowhere,
-    At(usize),
-}
-
-// What the tests of a row come to: the first that holds stops the call.
-#[derive(Clone, Copy)]
-pub enum Verdict {
-    Stop(Refusal),
-    Pass,
-}
-
-// The same of a call that names a lease, with the place of its record.
-#[derive(Clone, Copy)]
-pub enum Lookup {
-    Stop(Refusal),
-    At(usize),
-}
-
-// Whether a registry is sound. A port or a slot is looked up among the earlier records only where its mark is set.
+// Whether a registry is sound. The columns come whole, with the numbers in use, since a sound one is blank past them. A port or a slot is looked up among the earlier records only where its mark is set.
 pub fn is_sound(
     publications: [Publication; 96],
     count: usize,
@@ -58,8 +39,7 @@ pub fn is_sound(
     }
     let mut ports = [false; 1024];
     let mut slots = [false; 1024];
-    let mut i: usize = 0;
-    while i < count {
+    for i in 0..count {
         let e = publications[i];
         if !records::is_kept(e) {
             return false;
@@ -67,57 +47,45 @@ pub fn is_sound(
         let port = e.port;
         let at_port = records::mark_of(port.0 as u64);
         let port_mark = ports[at_port];
-        if records::is_both(port_mark, e.visible) {
-            if let Place::At(_) = search::port_place(publications, i, port) {
+        if port_mark & e.visible {
+            if let Some(_) = search::port_place(&publications[..i], port) {
                 return false;
             }
         }
-        ports[at_port] = records::is_either(e.visible, port_mark);
+        ports[at_port] = e.visible | port_mark;
         let slot = e.slot;
         let at_slot = records::mark_of(slot);
         let slot_mark = slots[at_slot];
-        if records::is_both(slot_mark, e.retained) {
-            if let Place::At(_) = search::slot_place(publications, i, slot) {
+        if slot_mark & e.retained {
+            if let Some(_) = search::slot_place(&publications[..i], slot) {
                 return false;
             }
         }
-        slots[at_slot] = records::is_either(e.retained, slot_mark);
-        i += 1;
+        slots[at_slot] = e.retained | slot_mark;
     }
     let mut least: u64 = 0;
-    let mut k: usize = 0;
-    while k < active {
-        let l = leases[k];
-        if !records::is_in_order(l, least, counter) {
+    for l in &leases[..active] {
+        if !records::is_in_order(*l, least, counter) {
             return false;
         }
         let p = l.publication.0 as usize;
         if 96 <= p {
             return false;
         }
-        let e = publications[p];
-        if e.retained {
-            least = l.id.0 + 1;
-            k += 1;
-        } else {
+        if !publications[p].retained {
+            return false;
+        }
+        least = l.id.0 + 1;
+    }
+    for e in &publications[count..] {
+        if !records::is_blank_record(*e) {
             return false;
         }
     }
-    let mut b = count;
-    while b < 96 {
-        let e = publications[b];
-        if !records::is_blank_record(e) {
+    for l in &leases[active..] {
+        if !records::is_blank_lease(*l) {
             return false;
         }
-        b += 1;
-    }
-    let mut d = active;
-    while d < 128 {
-        let l = leases[d];
-        if !records::is_blank_lease(l) {
-            return false;
-        }
-        d += 1;
     }
     true
 }
@@ -137,23 +105,15 @@ pub fn is_store_sound(
     if !is_sound(publications, count, leases, active, counter) {
         return false;
     }
-    let mut i: usize = 0;
-    while i < count {
-        let e = publications[i];
-        let payload = payloads[i];
-        if !records::is_own_cell(e, i as u64, payload) {
+    for i in 0..count {
+        if !records::is_own_cell(publications[i], i as u64, payloads[i]) {
             return false;
         }
-        i += 1;
     }
-    let mut b = count;
-    while b < 96 {
-        let payload = payloads[b];
-        let revision = revisions[b];
-        if !records::is_blank_cell(payload, revision) {
+    for b in count..96 {
+        if !records::is_blank_cell(payloads[b], revisions[b]) {
             return false;
         }
-        b += 1;
     }
     true
 }

@@ -16,14 +16,8 @@ use Rattle.rules.proofs.Called.{sound_or_damaged, command_leaves, command_stays}
 use Rattle.rules.proofs.Responses.{same_answer}
 use Rattle.store.specs.Columns.{columns_of, store_of}
 use Rattle.store.specs.declared.PublicationStore.{PublicationStore}
-use Rattle.store.specs.declared.Published.{Published}
-use Rattle.store.specs.declared.Changed.{Changed}
-use Rattle.store.specs.declared.Acquired.{Acquired}
-use Rattle.store.specs.declared.Replaced.{Replaced}
-use Rattle.store.specs.declared.Reclaimed.{Reclaimed}
-use Rattle.store.specs.declared.Applied as D
 use Rattle.demands.specs.Calls.{Called, Applied, Given, given, Queried}
-use Rattle.demands.proofs.SameAnswers.{publish_one, replace_one, handle_one, read_one, observe_one, id_one, lease_id_one, plain_one, count_one}
+use Rattle.demands.proofs.SameAnswers.{result_one, rejected_one}
 
 -- a command that changes nothing leaves the columns as they came
 looks : (t : StoreColumns) (c : Command) → effect (used t) c ≡ used t → (command box t c).table ≡ t
@@ -42,17 +36,17 @@ abbrev pub store_after : PublicationStore → Command → PublicationStore
 store_after s c = store_of (command box (columns_of s) c).table
 
 pub called : (c : Command) (s : PublicationStore) (a : AnswerTo c) (t : PublicationStore) → Called c s a t → (a ≡ answer_on s c) × (t ≡ store_after s c)
-called (Publish o g q v) s a t h = (publish_one a (answer_on s (Publish o g q v)) (ap (λ (x : Published). x.answer) h), ap (λ (x : Published). x.store) h)
-called (Adopt p o g) s a t h = (plain_one a (answer_on s (Adopt p o g)) (ap (λ (x : Changed). x.answer) h), ap (λ (x : Changed). x.store) h)
-called (Acquire p o g) s a t h = (lease_id_one a (answer_on s (Acquire p o g)) (ap (λ (x : Acquired). x.answer) h), ap (λ (x : Acquired). x.store) h)
-called (Release i) s a t h = (plain_one a (answer_on s (Release i)) (ap (λ (x : Changed). x.answer) h), ap (λ (x : Changed). x.store) h)
-called (Revoke p) s a t h = (plain_one a (answer_on s (Revoke p)) (ap (λ (x : Changed). x.answer) h), ap (λ (x : Changed). x.store) h)
-called (Replace p o g v) s a t h = (replace_one a (answer_on s (Replace p o g v)) (ap (λ (x : Replaced). x.answer) h), ap (λ (x : Replaced). x.store) h)
-called (Reclaim p) s a t h = (handle_one a (answer_on s (Reclaim p)) (ap (λ (x : Reclaimed). x.answer) h), ap (λ (x : Reclaimed). x.store) h)
-called (Read i) s a t h = (read_one a (answer_on s (Read i)) h.0, h.1 ∙ sym (ap store_of (looks (columns_of s) (Read i) refl)))
-called (Observe p) s a t h = (observe_one a (answer_on s (Observe p)) h.0, h.1 ∙ sym (ap store_of (looks (columns_of s) (Observe p) refl)))
-called (Resolve q) s a t h = (id_one a (answer_on s (Resolve q)) h.0, h.1 ∙ sym (ap store_of (looks (columns_of s) (Resolve q) refl)))
-called Count s a t h = (count_one a (answer_on s Count) h.0, h.1 ∙ sym (ap store_of (looks (columns_of s) Count refl)))
+called (Publish o g q v) s a t h = (rejected_one a (answer_on s (Publish o g q v)) (ap (λ x. x.answer) h), ap (λ x. x.table) h)
+called (Adopt p o g) s a t h = (result_one a (answer_on s (Adopt p o g)) (ap (λ x. x.answer) h), ap (λ x. x.table) h)
+called (Acquire p o g) s a t h = (result_one a (answer_on s (Acquire p o g)) (ap (λ x. x.answer) h), ap (λ x. x.table) h)
+called (Release i) s a t h = (result_one a (answer_on s (Release i)) (ap (λ x. x.answer) h), ap (λ x. x.table) h)
+called (Revoke p) s a t h = (result_one a (answer_on s (Revoke p)) (ap (λ x. x.answer) h), ap (λ x. x.table) h)
+called (Replace p o g v) s a t h = (rejected_one a (answer_on s (Replace p o g v)) (ap (λ x. x.answer) h), ap (λ x. x.table) h)
+called (Reclaim p) s a t h = (result_one a (answer_on s (Reclaim p)) (ap (λ x. x.answer) h), ap (λ x. x.table) h)
+called (Read i) s a t h = (result_one a (answer_on s (Read i)) h.0, h.1 ∙ sym (ap store_of (looks (columns_of s) (Read i) refl)))
+called (Observe p) s a t h = (result_one a (answer_on s (Observe p)) h.0, h.1 ∙ sym (ap store_of (looks (columns_of s) (Observe p) refl)))
+called (Resolve q) s a t h = (result_one a (answer_on s (Resolve q)) h.0, h.1 ∙ sym (ap store_of (looks (columns_of s) (Resolve q) refl)))
+called Count s a t h = (result_one a (answer_on s Count) h.0, h.1 ∙ sym (ap store_of (looks (columns_of s) Count refl)))
 
 -- and it comes back with that
 pub calls : (c : Command) (s : PublicationStore) → Called c s (answer_on s c) (store_after s c)
@@ -72,7 +66,7 @@ calls Count s = (refl, ap store_of (looks (columns_of s) Count refl))
 
 pub applied : (c : Command) (s : PublicationStore) (a : AnswerTo c) (t : PublicationStore) → Applied c s a t → (a ≡ answer_on s c) × (t ≡ store_after s c)
 unfolding call_response
-applied c s a t h = (same_answer c a (answer_on s c) (ap (λ (x : D.Applied). x.response) h), ap (λ (x : D.Applied). x.store) h)
+applied c s a t h = (same_answer c a (answer_on s c) (ap (λ x. x.answer) h), ap (λ x. x.table) h)
 
 pub applies : (c : Command) (s : PublicationStore) → Applied c s (answer_on s c) (store_after s c)
 unfolding call_response

@@ -16,7 +16,7 @@ use Rattle.trace.specs.Run.{run}
 use Rattle.trace.proofs.Stops.{why}
 use Rattle.demands.specs.Calls.{Called, Applied, given}
 use Rattle.demands.specs.Demand1.{EndsWithAnAnswer, TestsWhatItIsHanded, CarriesItsNumber, ChangesNothing, Demand1}
-use Rattle.demands.proofs.EntryPoints.{store_ends, cell_ends, registry_ends, columns_ends, trace_ends, readers_end, embed_ends}
+use Rattle.demands.proofs.EntryPoints.{store_ends, cell_ends, registry_ends, columns_ends, trace_ends, readers_end, embed_ends, number_ends}
 use Rattle.demands.proofs.Calls.{answer_on, store_after, called, calls, applied, applies, queried}
 use Rattle.demands.proofs.RegistryCalls as registry
 use Rattle.demands.proofs.Texts.{run_is, stopped_at_once, report_refuses, report_tells_seven}
@@ -41,6 +41,7 @@ ends =
       trace = trace_ends;
       readers = readers_end;
       embed = embed_ends;
+      numbers = number_ends;
       command = λ c s. (answer_on s c, store_after s c, calls c s);
       either_way = λ c s a t.
           (λ h. same Applied c s a t (called c s a t h) (applies c s), λ h. same Called c s a t (applied c s a t h) (calls c s));

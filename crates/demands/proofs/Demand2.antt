@@ -1,5 +1,6 @@
 -- The second demand holds.
 -- Assumes nothing.
+use Rattle.std.specs.Prelude.{Option, Some, None, ℕ}
 use mathlib.Core.Path.{◌≡◌, refl, sym, ap, subst, ◌∙◌}
 use Rattle.rules.specs.Limits.{box}
 use Rattle.rules.specs.Answers.{Verdict, refused, done, pass, stop, verdict}
@@ -8,8 +9,6 @@ use Rattle.rules.specs.Table.{empty_registry}
 use Rattle.rules.specs.Rows.{result, step}
 use Rattle.rules.specs.Queries.{Query, Beside, beside, query_tests, query_result, reply}
 use Rattle.rules.specs.RegistryRows.{Call, CallAnswer, call_result, registry_step}
-use Rattle.rules.specs.declared.Domain.{Domain}
-use Rattle.rules.specs.declared.Domain.TheVariants.{Unset, Number}
 use Rattle.rules.specs.declared.Refusal.{Refusal}
 use Rattle.rules.specs.declared.Command.{Command}
 use Rattle.rules.proofs.Refusals.{refused_exactly, carried_out_exactly, refusal_keeps, done_leaves, query_refused_exactly, query_answered_exactly, call_refused_exactly, call_carried_out_exactly, call_refusal_keeps, call_done_leaves}
@@ -19,6 +18,7 @@ use Rattle.registry.specs.declared.PublicationRegistry.{PublicationRegistry}
 use Rattle.store.specs.Columns.{columns_of, store_of}
 use Rattle.store.specs.declared.PublicationStore.{PublicationStore}
 use Rattle.trace.proofs.Followed.{blocks_one}
+use Rattle.trace.proofs.StopNumbers.{stopped_one}
 use Rattle.demands.specs.Calls.{Sound, table_of, stored, Called, Given, given, Queried}
 use Rattle.demands.specs.RegistryCalls.{RegistrySound, registry_read, registered, RegistryMade, RegistryCalled}
 use Rattle.demands.specs.Numbers.{query_number}
@@ -91,9 +91,9 @@ call_by_its_row k s a t h sound =
     left : t ≡ registered (registry_step box (registry_read s) k).table
     left = (registry.called s k a t h).1 ∙ ap registry_columns.registry_of (call_leaves box (registry_columns.columns_of s) k sound)
 
-new_registry_is : (d : Domain) (s : PublicationRegistry) → RegistryMade d s → s ≡ registered (empty_registry d)
-new_registry_is Unset s m = m
-new_registry_is (Number n) s m = m
+new_registry_is : (d : Option ℕ) (s : PublicationRegistry) → RegistryMade d s → s ≡ registered (empty_registry d)
+new_registry_is None s m = m
+new_registry_is (Some n) s m = m
 
 pub demand2 : Demand2
 demand2 =
@@ -109,8 +109,10 @@ demand2 =
         (registry.called s k a t h).0 ∙ sym (registry.called s k b u j).0,
         (registry.called s k a t h).1 ∙ sym (registry.called s k b u j).1,
       );
-      one_run = λ s text out q r left right h j.
-          ((run_is s text out q left h).0 ∙ sym (run_is s text out r right j).0, (run_is s text out q left h).1 ∙ sym (run_is s text out r right j).1);
+      one_run = λ s text out q r left right h j. (
+        stopped_one _ q r (run_is s text out q left h).0 (run_is s text out r right j).0,
+        (run_is s text out q left h).1 ∙ sym (run_is s text out r right j).1,
+      );
       one_reading = λ xs ys read v w p q. blocks_one (commands xs) (commands ys) read p.commands_read q.commands_read;
       new = λ d s m. (new_is d s m, subst Sound (sym (new_is d s m)) (empty_columns_sound box d));
       stays_sound = λ c s a t h k. subst Sound (sym (called c s a t h).1) (command_keeps box (columns_of s) c k);

@@ -15,6 +15,7 @@ use denote.Triple.Statement.{Contract, Triple}
 use prog.Memory.{Memory}
 use prog.Routine.{Env}
 use prog.Wired.{Wired}
+use Rattle.rules.proofs.U64FromRefusal as refusal
 use Rattle.registry.proofs.PublicationRegistry as registry
 use Rattle.store.proofs.PublicationStore as store
 use Rattle.store.proofs.ValueCell as cell
@@ -24,7 +25,9 @@ use Rattle.text.proofs as text
 use Rattle.blocks.proofs as blocks
 use Rattle.reader.proofs as reader
 use Rattle.trace.proofs as trace
+use Rattle.trace.proofs.U64FromStop as stop
 use Rattle.embed.proofs as embed
+use Rattle.rules.proofs.Build as rules_build
 use Rattle.columns.proofs.Build as columns_build
 use Rattle.registry.proofs.Build as registry_build
 use Rattle.store.proofs.Build as store_build
@@ -34,9 +37,9 @@ use Rattle.reader.proofs.Build as reader_build
 use Rattle.trace.proofs.Build as trace_build
 use Rattle.embed.proofs.Build as embed_build
 use Rattle.demands.specs.Built.{built}
-use Rattle.demands.specs.EntryPoints.{store_entries, cell_entries, registry_entries, trace_entries, columns_entries, embed_entries, EachTotal, none, ◌and◌, ReaderEntry, CalledOn, Promised, ReaderBegins, Answered, ReaderAsksNothing, ReaderTotal, reader_new, reader_at_end, reader_next_block, reader_moved, ReadersTotal}
+use Rattle.demands.specs.EntryPoints.{store_entries, cell_entries, registry_entries, trace_entries, columns_entries, embed_entries, number_entries, EachTotal, none, ◌and◌, ReaderEntry, CalledOn, Promised, ReaderBegins, Answered, ReaderAsksNothing, ReaderTotal, reader_new, reader_at_end, reader_next_block, reader_moved, ReadersTotal}
 use Rattle.demands.specs.Ends.{Held}
-use Rattle.demands.proofs.Standing.{in_columns, in_registry, in_store, in_text, in_blocks, in_reader, in_trace, in_embed}
+use Rattle.demands.proofs.Standing.{in_rules, in_columns, in_registry, in_store, in_text, in_blocks, in_reader, in_trace, in_embed}
 use Rattle.demands.proofs.Ending.{running, on_the_machine, total}
 
 pub store_ends : EachTotal store_entries
@@ -140,6 +143,12 @@ embed_ends =
     and total embed.lease_broker_name.Reads.known (on_the_machine embed.lease_broker_name.Symbol.code embed.lease_broker_name.Met.met) (λ κs a. tt) (in_embed embed.lease_broker_name.Symbol.code embed_build.lease_broker_name-stands)
     and none
 
+pub number_ends : EachTotal number_entries
+number_ends =
+    total refusal.from.Reads.known (on_the_machine refusal.from.Symbol.code refusal.from.Met.met) (λ κs a. tt) (in_rules refusal.from.Symbol.code rules_build.number-stands)
+    and total stop.from.Reads.known (on_the_machine stop.from.Symbol.code stop.from.Met.met) (λ κs a. tt) (in_trace stop.from.Symbol.code trace_build.number-stands)
+    and none
+
 -- a call with a reader, from its theorem
 module _ (f : ReaderEntry) (γ : Env)
     (met : Meets logic₀ f.ended.signature ((running γ).run (γ f.name)) (closing logic₀ f.ended f.contract))
@@ -180,8 +189,8 @@ reader_total f met nothing stands =
 pub readers_end : ReadersTotal
 readers_end =
     record {
-      new = reader_total reader_new (on_the_machine reader.new.Symbol.code reader.new.Met.met) (λ κs a. id⊢ 𝓤 (emp 𝓤)) (in_reader reader.new.Symbol.code reader_build.new-stands);
-      at_end = reader_total reader_at_end (on_the_machine reader.at_end.Symbol.code reader.at_end.Met.met) (λ κs a. id⊢ 𝓤 (emp 𝓤)) (in_reader reader.at_end.Symbol.code reader_build.at_end-stands);
-      next_block = reader_total reader_next_block (on_the_machine reader.next_block.Symbol.code reader.next_block.Met.met) (λ κs a. id⊢ 𝓤 (emp 𝓤)) (in_reader reader.next_block.Symbol.code reader_build.next_block-stands);
-      moved = reader_total reader_moved (on_the_machine reader.moved.Symbol.code reader.moved.Met.met) (λ κs a. id⊢ 𝓤 (emp 𝓤)) (in_reader reader.moved.Symbol.code reader_build.moved-stands);
+      new = reader_total reader_new (on_the_machine reader.Reader.new.Symbol.code reader.Reader.new.Met.met) (λ κs a. id⊢ 𝓤 (emp 𝓤)) (in_reader reader.Reader.new.Symbol.code reader_build.Reader-new-stands);
+      at_end = reader_total reader_at_end (on_the_machine reader.Reader.at_end.Symbol.code reader.Reader.at_end.Met.met) (λ κs a. id⊢ 𝓤 (emp 𝓤)) (in_reader reader.Reader.at_end.Symbol.code reader_build.Reader-at_end-stands);
+      next_block = reader_total reader_next_block (on_the_machine reader.Reader.next_block.Symbol.code reader.Reader.next_block.Met.met) (λ κs a. id⊢ 𝓤 (emp 𝓤)) (in_reader reader.Reader.next_block.Symbol.code reader_build.Reader-next_block-stands);
+      moved = reader_total reader_moved (on_the_machine reader.Reader.moved.Symbol.code reader.Reader.moved.Met.met) (λ κs a. id⊢ 𝓤 (emp 𝓤)) (in_reader reader.Reader.moved.Symbol.code reader_build.Reader-moved-stands);
     }

@@ -1,22 +1,18 @@
 -- A registry's call comes back exactly with what the rules' call gives: its answer, and its columns as a registry.
 -- Assumes nothing.
+use Rattle.std.specs.Prelude.{None, Some}
 use mathlib.Core.Path.{◌≡◌, refl, sym, ap, ◌∙◌}
 use mathlib.Core.Logic.{⊎_elim}
 use Rattle.rules.specs.Limits.{box}
 use Rattle.rules.specs.Columns.{used_registry, filled_registry}
 use Rattle.rules.specs.RegistryRows.{Call, CallAnswer, call_effect, publish, can_adopt, adopt, check_lease_capacity, acquire, leased_slot, release, revoke, reclaim, resolve, entry, lease, domain, publication_records, lease_record_count, lease_allocation_count}
 use Rattle.rules.specs.Calls.{registry_call}
-use Rattle.rules.specs.declared.Consumer.TheVariants.{Nobody, Episode}
 use Rattle.rules.proofs.Refusals.{call_step_keeps}
 use Rattle.rules.proofs.Called.{registry_sound_or_damaged, call_leaves, call_stays}
 use Rattle.registry.specs.Columns.{columns_of, registry_of}
 use Rattle.registry.specs.declared.PublicationRegistry.{PublicationRegistry}
-use Rattle.registry.specs.declared.Published.{Published}
-use Rattle.registry.specs.declared.Acquired.{Acquired}
-use Rattle.registry.specs.declared.Changed.{Changed}
-use Rattle.registry.specs.declared.Reclaimed.{Reclaimed}
 use Rattle.demands.specs.RegistryCalls.{RegistryCalled}
-use Rattle.demands.proofs.SameAnswers.{id_one, lease_id_one, slot_one, plain_one, publication_one, lease_one, domain_one, count_one}
+use Rattle.demands.proofs.SameAnswers.{result_one}
 
 -- what the rules' call gives on a registry's columns
 
@@ -41,20 +37,20 @@ looks s k e =
 
 module _ (s : PublicationRegistry) where
   pub called : (k : Call) (a : CallAnswer k) (t : PublicationRegistry) → RegistryCalled k s a t → (a ≡ registry_answer s k) × (t ≡ registry_after s k)
-  called (publish o g q v) a t h = (id_one a (registry_answer s (publish o g q v)) (ap (λ (x : Published). x.answer) h), ap (λ (x : Published). x.registry) h)
-  called (can_adopt p o g) a t h = (plain_one a (registry_answer s (can_adopt p o g)) h.0, h.1 ∙ looks s (can_adopt p o g) refl)
-  called (adopt p o g) a t h = (plain_one a (registry_answer s (adopt p o g)) (ap (λ (x : Changed). x.answer) h), ap (λ (x : Changed). x.registry) h)
-  called (check_lease_capacity n) a t h = (plain_one a (registry_answer s (check_lease_capacity n)) h.0, h.1 ∙ looks s (check_lease_capacity n) refl)
-  called (acquire p Nobody) a t h = (lease_id_one a (registry_answer s (acquire p Nobody)) (ap (λ (x : Acquired). x.answer) h), ap (λ (x : Acquired). x.registry) h)
-  called (acquire p (Episode o g)) a t h = (lease_id_one a (registry_answer s (acquire p (Episode o g))) (ap (λ (x : Acquired). x.answer) h), ap (λ (x : Acquired). x.registry) h)
-  called (leased_slot i) a t h = (slot_one a (registry_answer s (leased_slot i)) h.0, h.1 ∙ looks s (leased_slot i) refl)
-  called (release i) a t h = (plain_one a (registry_answer s (release i)) (ap (λ (x : Changed). x.answer) h), ap (λ (x : Changed). x.registry) h)
-  called (revoke p) a t h = (plain_one a (registry_answer s (revoke p)) (ap (λ (x : Changed). x.answer) h), ap (λ (x : Changed). x.registry) h)
-  called (reclaim p) a t h = (slot_one a (registry_answer s (reclaim p)) (ap (λ (x : Reclaimed). x.answer) h), ap (λ (x : Reclaimed). x.registry) h)
-  called (resolve q) a t h = (id_one a (registry_answer s (resolve q)) h.0, h.1 ∙ looks s (resolve q) refl)
-  called (entry p) a t h = (publication_one a (registry_answer s (entry p)) h.0, h.1 ∙ looks s (entry p) refl)
-  called (lease i) a t h = (lease_one a (registry_answer s (lease i)) h.0, h.1 ∙ looks s (lease i) refl)
-  called domain a t h = (domain_one a (registry_answer s domain) h.0, h.1 ∙ looks s domain refl)
-  called publication_records a t h = (count_one a (registry_answer s publication_records) h.0, h.1 ∙ looks s publication_records refl)
-  called lease_record_count a t h = (count_one a (registry_answer s lease_record_count) h.0, h.1 ∙ looks s lease_record_count refl)
-  called lease_allocation_count a t h = (count_one a (registry_answer s lease_allocation_count) h.0, h.1 ∙ looks s lease_allocation_count refl)
+  called (publish o g q v) a t h = (result_one a (registry_answer s (publish o g q v)) (ap (λ x. x.answer) h), ap (λ x. x.table) h)
+  called (can_adopt p o g) a t h = (result_one a (registry_answer s (can_adopt p o g)) h.0, h.1 ∙ looks s (can_adopt p o g) refl)
+  called (adopt p o g) a t h = (result_one a (registry_answer s (adopt p o g)) (ap (λ x. x.answer) h), ap (λ x. x.table) h)
+  called (check_lease_capacity n) a t h = (result_one a (registry_answer s (check_lease_capacity n)) h.0, h.1 ∙ looks s (check_lease_capacity n) refl)
+  called (acquire p None) a t h = (result_one a (registry_answer s (acquire p None)) (ap (λ x. x.answer) h), ap (λ x. x.table) h)
+  called (acquire p (Some k)) a t h = (result_one a (registry_answer s (acquire p (Some k))) (ap (λ x. x.answer) h), ap (λ x. x.table) h)
+  called (leased_slot i) a t h = (result_one a (registry_answer s (leased_slot i)) h.0, h.1 ∙ looks s (leased_slot i) refl)
+  called (release i) a t h = (result_one a (registry_answer s (release i)) (ap (λ x. x.answer) h), ap (λ x. x.table) h)
+  called (revoke p) a t h = (result_one a (registry_answer s (revoke p)) (ap (λ x. x.answer) h), ap (λ x. x.table) h)
+  called (reclaim p) a t h = (result_one a (registry_answer s (reclaim p)) (ap (λ x. x.answer) h), ap (λ x. x.table) h)
+  called (resolve q) a t h = (result_one a (registry_answer s (resolve q)) h.0, h.1 ∙ looks s (resolve q) refl)
+  called (entry p) a t h = (result_one a (registry_answer s (entry p)) h.0, h.1 ∙ looks s (entry p) refl)
+  called (lease i) a t h = (result_one a (registry_answer s (lease i)) h.0, h.1 ∙ looks s (lease i) refl)
+  called domain a t h = (result_one a (registry_answer s domain) h.0, h.1 ∙ looks s domain refl)
+  called publication_records a t h = (result_one a (registry_answer s publication_records) h.0, h.1 ∙ looks s publication_records refl)
+  called lease_record_count a t h = (result_one a (registry_answer s lease_record_count) h.0, h.1 ∙ looks s lease_record_count refl)
+  called lease_allocation_count a t h = (result_one a (registry_answer s lease_allocation_count) h.0, h.1 ∙ looks s lease_allocation_count refl)

@@ -1,5 +1,6 @@
 -- A session follows the rules: its answers are those of the rows, and its store is the table of the rows.
 -- Assumes nothing.
+use Rattle.std.specs.Prelude.{Option, Some, None, ℕ}
 use mathlib.Core.Path.{◌≡◌, refl, sym, ap, subst, ◌∙◌}
 use mathlib.Core.List.{List, [], ◌∷◌, ◌++◌, append_assoc}
 use Rattle.rules.specs.Limits.{box}
@@ -10,8 +11,6 @@ use Rattle.rules.specs.Rows.{step}
 use Rattle.rules.specs.Sound.{StoreSound}
 use Rattle.rules.specs.Broker.{Broker, Event, events, run, told}
 use Rattle.rules.specs.Demand2.{by_the_rows}
-use Rattle.rules.specs.declared.Domain.{Domain}
-use Rattle.rules.specs.declared.Domain.TheVariants.{Unset, Number}
 use Rattle.rules.specs.declared.Command.{Command}
 use Rattle.rules.proofs.KeepsStore.{step_sound, empty_sound}
 use Rattle.rules.proofs.Columns.{used_filled, filled_sound}
@@ -24,13 +23,13 @@ use Rattle.demands.proofs.Calls.{answer_on, store_after, called, calls}
 
 -- a new store is the empty one
 
-pub new_is : (d : Domain) (s : PublicationStore) → Made d s → s ≡ stored (empty_store d)
-new_is Unset s m = m
-new_is (Number n) s m = m
+pub new_is : (d : Option ℕ) (s : PublicationStore) → Made d s → s ≡ stored (empty_store d)
+new_is None s m = m
+new_is (Some n) s m = m
 
-pub makes : (d : Domain) → Made d (stored (empty_store d))
-makes Unset = refl
-makes (Number n) = refl
+pub makes : (d : Option ℕ) → Made d (stored (empty_store d))
+makes None = refl
+makes (Some n) = refl
 
 -- a call on a table's store does the row's step
 

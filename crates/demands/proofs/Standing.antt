@@ -5,6 +5,7 @@ use mathlib.Core.Bool.{true}
 use prog.Linked.{in_world}
 use prog.LinkedThreads.{HasT, tie_t-follows, tie_t-threads, has-wired_t}
 use prog.Wired.{Code, Wired}
+use Rattle.rules.proofs.Build as rules
 use Rattle.columns.proofs.Build as columns
 use Rattle.registry.proofs.Build as registry
 use Rattle.store.proofs.Build as store
@@ -18,6 +19,10 @@ use Rattle.demands.specs.Built.{crates, built}
 
 wired : (c : Code) → HasT (in_world crates) true c → Wired built c
 wired = has-wired_t (in_world crates) built (tie_t-follows (in_world crates)) (tie_t-threads (in_world crates))
+
+-- a function of rules, by how it stands there
+pub in_rules : (c : Code) → rules.Stands c → Wired built c
+in_rules c stands = wired c (stands crates refl)
 
 columns_below : columns.Below crates
 columns_below = tt
@@ -44,14 +49,17 @@ registry_below = (
               (
                 columns.inner-rows-slot_publish_verdict-stands crates refl columns_below,
                 (
-                  columns.inner-search-lease_place-stands crates refl columns_below,
+                  columns.inner-search-known-stands crates refl columns_below,
                   (
-                    columns.inner-search-port_place-stands crates refl columns_below,
+                    columns.inner-search-lease_place-stands crates refl columns_below,
                     (
-                      columns.is_sound-stands crates refl columns_below,
+                      columns.inner-search-port_place-stands crates refl columns_below,
                       (
-                        columns.records-blank_lease-stands crates refl columns_below,
-                        (columns.records-blank_publication-stands crates refl columns_below, tt),
+                        columns.is_sound-stands crates refl columns_below,
+                        (
+                          columns.records-blank_lease-stands crates refl columns_below,
+                          (columns.records-blank_publication-stands crates refl columns_below, tt),
+                        ),
                       ),
                     ),
                   ),
@@ -71,32 +79,41 @@ in_registry c stands = wired c (stands crates refl registry_below)
 
 store_below : store.Below crates
 store_below = (
-  columns.inner-close_up-stands crates refl columns_below,
+  columns.inner-rows-lease_lookup-stands crates refl columns_below,
   (
-    columns.inner-rows-acquire_verdict-stands crates refl columns_below,
+    columns.inner-rows-publish_verdict-stands crates refl columns_below,
     (
-      columns.inner-rows-adopt_verdict-stands crates refl columns_below,
+      columns.inner-rows-reclaim_verdict-stands crates refl columns_below,
       (
-        columns.inner-rows-lease_lookup-stands crates refl columns_below,
+        columns.inner-search-known-stands crates refl columns_below,
         (
-          columns.inner-rows-publish_verdict-stands crates refl columns_below,
+          columns.is_store_sound-stands crates refl columns_below,
           (
-            columns.inner-rows-reclaim_verdict-stands crates refl columns_below,
+            columns.records-is_both-stands crates refl columns_below,
             (
-              columns.inner-rows-revoke_verdict-stands crates refl columns_below,
+              columns.records-replace_verdict-stands crates refl columns_below,
               (
-                columns.inner-search-port_place-stands crates refl columns_below,
+                registry.PublicationRegistry-new-stands crates refl registry_below,
                 (
-                  columns.is_store_sound-stands crates refl columns_below,
+                  registry.inner-Sound-acquire-stands crates refl registry_below,
                   (
-                    columns.records-blank_lease-stands crates refl columns_below,
+                    registry.inner-Sound-adopt-stands crates refl registry_below,
                     (
-                      columns.records-blank_publication-stands crates refl columns_below,
+                      registry.inner-Sound-leases-stands crates refl registry_below,
                       (
-                        columns.records-is_both-stands crates refl columns_below,
+                        registry.inner-Sound-publications-stands crates refl registry_below,
                         (
-                          columns.records-replace_verdict-stands crates refl columns_below,
-                          (registry.PublicationRegistry-new-stands crates refl registry_below, tt),
+                          registry.inner-Sound-release-stands crates refl registry_below,
+                          (
+                            registry.inner-Sound-resolve-stands crates refl registry_below,
+                            (
+                              registry.inner-Sound-revoke-stands crates refl registry_below,
+                              (
+                                registry.inner-empty-stands crates refl registry_below,
+                                (registry.inner-refused-stands crates refl registry_below, tt),
+                              ),
+                            ),
+                          ),
                         ),
                       ),
                     ),
@@ -131,13 +148,13 @@ in_writing c stands = wired c (stands crates refl writing_below)
 
 blocks_below : blocks.Below crates
 blocks_below = (
-  text.key_code-stands crates refl text_below,
+  rules.number-stands crates refl,
   (
-    text.key_line_at-stands crates refl text_below,
+    text.key_code-stands crates refl text_below,
     (
-      text.op_at-stands crates refl text_below,
+      text.key_line_at-stands crates refl text_below,
       (
-        writing.inner-number_of-stands crates refl writing_below,
+        text.op_at-stands crates refl text_below,
         (
           writing.inner-put_line-stands crates refl writing_below,
           (writing.inner-put_line_at-stands crates refl writing_below, tt),
@@ -152,8 +169,7 @@ pub in_blocks : (c : Code) → blocks.Stands c → Wired built c
 in_blocks c stands = wired c (stands crates refl blocks_below)
 
 reader_below : reader.Below crates
-reader_below =
-    (blocks.block_at-stands crates refl blocks_below, tt)
+reader_below = (blocks.block_at-stands crates refl blocks_below, tt)
 
 -- a function of reader, by how it stands there
 pub in_reader : (c : Code) → reader.Stands c → Wired built c
@@ -165,11 +181,11 @@ trace_below = (
   (
     blocks.inner-put_response_at-stands crates refl blocks_below,
     (
-      store.PublicationStore-new-stands crates refl store_below,
+      store.inner-Sound-empty-stands crates refl store_below,
       (
-        store.inner-any-apply-stands crates refl store_below,
+        store.inner-Sound-tested-stands crates refl store_below,
         (
-          store.inner-is_sound-stands crates refl store_below,
+          store.inner-any-apply-stands crates refl store_below,
           (
             writing.inner-put-stands crates refl writing_below,
             (
@@ -191,10 +207,13 @@ embed_below : embed.Below crates
 embed_below = (
   store.PublicationStore-new-stands crates refl store_below,
   (
-    trace.report-stands crates refl trace_below,
+    trace.number-stands crates refl trace_below,
     (
-      trace.run-stands crates refl trace_below,
-      (writing.inner-put_name-stands crates refl writing_below, tt),
+      trace.report-stands crates refl trace_below,
+      (
+        trace.run-stands crates refl trace_below,
+        (writing.inner-put_name-stands crates refl writing_below, tt),
+      ),
     ),
   ),
 )

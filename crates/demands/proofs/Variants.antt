@@ -1,6 +1,7 @@
 -- A session meets the third demand's premises, and sentences next to the demand are false of sessions: Relied after the last release as well,
 -- success before it, success of every later reclaim, the first handle, handles only handed back, a count of all handles accepted.
 -- Assumes nothing.
+use Rattle.std.specs.Prelude.{None}
 use Prim.Native.Nat.{ℕ}
 use mathlib.Core.Path.{◌≡◌, refl, ap}
 use mathlib.Core.Logic.{◌≢◌}
@@ -17,7 +18,6 @@ use Rattle.rules.specs.Probes.{publish, acquire, release, revoke, replace, recla
 use Rattle.rules.specs.Broker.{Event, began, run}
 use Rattle.rules.specs.History.{accepted, handed_back, times, holding}
 use Rattle.rules.specs.declared.PublicationId.{PublicationId}
-use Rattle.rules.specs.declared.Domain.TheVariants.{Unset}
 use Rattle.rules.specs.declared.Refusal.TheVariants.{Relied, Released}
 use Rattle.rules.specs.declared.Command.{Command}
 use Rattle.rules.specs.declared.Command.TheVariants.{Reclaim, Count}
@@ -33,15 +33,15 @@ use Rattle.demands.proofs.Ledger.{called_so}
 -- any commands, from an empty store without domain
 
 abbrev last : List Command → PublicationStore
-last cs = stored (run (rows (empty_store Unset)) (empty_store Unset) cs)
+last cs = stored (run (rows (empty_store None)) (empty_store None) cs)
 
-session : (cs : List Command) → Session (by_the_rules (empty_store Unset) cs) (last cs)
+session : (cs : List Command) → Session (by_the_rules (empty_store None) cs) (last cs)
 session cs =
     record {
-      domain = Unset;
-      first = stored (empty_store Unset);
-      made = makes Unset;
-      leads = led (empty_store Unset) cs (empty_store Unset) (empty_sound box Unset);
+      domain = None;
+      first = stored (empty_store None);
+      made = makes None;
+      leads = led (empty_store None) cs (empty_store None) (empty_sound box None);
     }
 
 abbrev zeroth : PublicationId

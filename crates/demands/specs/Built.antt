@@ -5,6 +5,7 @@ use lib.Chars.{codes}
 use prog.Linked.{World, in_world}
 use prog.LinkedThreads.{tie_t}
 use prog.Routine.{Env}
+use Rattle.rules.proofs.Build as rules
 use Rattle.columns.proofs.Build as columns
 use Rattle.registry.proofs.Build as registry
 use Rattle.store.proofs.Build as store
@@ -18,7 +19,8 @@ use Rattle.embed.proofs.Build as embed
 -- each crate's functions, under the crate's name
 abbrev pub crates : World
 crates =
-    (codes "columns", columns.table)
+    (codes "rules", rules.table)
+    ∷ (codes "columns", columns.table)
     ∷ (codes "registry", registry.table)
     ∷ (codes "store", store.table)
     ∷ (codes "text", text.table)

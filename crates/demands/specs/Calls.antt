@@ -1,6 +1,6 @@
 -- Commands and queries made by the store's public calls: what comes back, as the contract that the call's source states allows.
 -- Assumes nothing.
-use Rattle.std.specs.Prelude.{◌≡◌}
+use Rattle.std.specs.Prelude.{ℕ, ◌≡◌, Option, Some, None, Result}
 use Rattle.rules.specs.Limits.{box}
 use Rattle.rules.specs.Commands.{AnswerTo}
 use Rattle.rules.specs.Table.{Store}
@@ -8,18 +8,17 @@ use Rattle.rules.specs.Columns.{used, filled}
 use Rattle.rules.specs.Sound.{StoreColumnsSound}
 use Rattle.rules.specs.Queries.{Query, ReplyTo, leased_value, value, contains_handle, registry_copy}
 use Rattle.rules.specs.Responses.{response_of}
-use Rattle.rules.specs.declared.Domain.{Domain}
-use Rattle.rules.specs.declared.Domain.TheVariants.{Unset, Number}
 use Rattle.rules.specs.declared.Command.{Command}
 use Rattle.rules.specs.declared.Command.TheVariants.{Publish, Adopt, Acquire, Release, Revoke, Replace, Reclaim, Read, Observe, Resolve, Count}
-use Rattle.registry.specs.Answers.{plain_of, id_answer_of, lease_id_answer_of, count_answer_of}
+use Rattle.rules.specs.declared.Refusal.{Refusal}
+use Rattle.rules.specs.declared.Leased.{Leased}
+use Rattle.rules.specs.declared.Answered.{Answered}
+use Rattle.registry.specs.Answers.{result_of}
+use Rattle.registry.specs.declared.PublicationRegistry.{PublicationRegistry}
 use Rattle.store.specs.Columns.{columns_of, store_of}
-use Rattle.store.specs.Answers.{publish_answer_of, replace_answer_of, handle_answer_of, read_answer_of, observe_answer_of, leased_answer_of, contained_of, registry_copy_of}
-use Rattle.store.specs.declared.PublicationStore.{PublicationStore}
-use Rattle.store.specs.declared.HandleAnswer.{HandleAnswer}
-use Rattle.store.specs.declared.LeasedAnswer.{LeasedAnswer}
+use Rattle.store.specs.Answers.{rejected_of, contained_of, registry_copy_of}
 use Rattle.store.specs.declared.Contained.{Contained}
-use Rattle.store.specs.declared.RegistryCopy.{RegistryCopy}
+use Rattle.store.specs.declared.PublicationStore.{PublicationStore}
 use Rattle.store.proofs.PublicationStore as store
 
 -- a store is sound; the table that it holds; a table as a store
@@ -39,40 +38,40 @@ holds contract arguments result = contract tt arguments result arguments
 
 -- a new store, with or without domain
 
-abbrev pub Made : Domain → PublicationStore → Type 0
-Made Unset s = holds store.new.Reads.Post tt s
-Made (Number n) s = holds store.for_domain.Reads.Post (n, tt) s
+abbrev pub Made : Option ℕ → PublicationStore → Type 0
+Made None s = holds store.new.Reads.Post tt s
+Made (Some n) s = holds store.for_domain.Reads.Post (n, tt) s
 
 -- a command made on a store comes back with an answer and leaves a store; the four that only look leave it as it is
 
 abbrev pub Called : (c : Command) → PublicationStore → AnswerTo c → PublicationStore → Type 0
-Called (Publish o g q v) s a t = holds store.publish.Reads.Post (s, (o, (g, (q, (v, tt))))) (record { answer = publish_answer_of a; store = t })
-Called (Adopt p o g) s a t = holds store.adopt.Reads.Post (s, (p, (o, (g, tt)))) (record { answer = plain_of a; store = t })
-Called (Acquire p o g) s a t = holds store.acquire_for.Reads.Post (s, (p, (o, (g, tt)))) (record { answer = lease_id_answer_of a; store = t })
-Called (Release i) s a t = holds store.release.Reads.Post (s, (i, tt)) (record { answer = plain_of a; store = t })
-Called (Revoke p) s a t = holds store.revoke.Reads.Post (s, (p, tt)) (record { answer = plain_of a; store = t })
-Called (Replace p o g v) s a t = holds store.replace.Reads.Post (s, (p, (o, (g, (v, tt))))) (record { answer = replace_answer_of a; store = t })
-Called (Reclaim p) s a t = holds store.reclaim.Reads.Post (s, (p, tt)) (record { answer = handle_answer_of a; store = t })
-Called (Read i) s a t = holds store.leased_observation.Reads.Post (s, (i, tt)) (read_answer_of a) × (t ≡ s)
-Called (Observe p) s a t = holds store.observation.Reads.Post (s, (p, tt)) (observe_answer_of a) × (t ≡ s)
-Called (Resolve q) s a t = holds store.resolve.Reads.Post (s, (q, tt)) (id_answer_of a) × (t ≡ s)
-Called Count s a t = holds store.retained_count.Reads.Post (s, tt) (count_answer_of a) × (t ≡ s)
+Called (Publish o g q v) s a t = holds store.publish.Reads.Post (s, (o, (g, (q, (v, tt))))) (record { answer = rejected_of a; table = t })
+Called (Adopt p o g) s a t = holds store.adopt.Reads.Post (s, (p, (o, (g, tt)))) (record { answer = result_of a; table = t })
+Called (Acquire p o g) s a t = holds store.acquire_for.Reads.Post (s, (p, (o, (g, tt)))) (record { answer = result_of a; table = t })
+Called (Release i) s a t = holds store.release.Reads.Post (s, (i, tt)) (record { answer = result_of a; table = t })
+Called (Revoke p) s a t = holds store.revoke.Reads.Post (s, (p, tt)) (record { answer = result_of a; table = t })
+Called (Replace p o g v) s a t = holds store.replace.Reads.Post (s, (p, (o, (g, (v, tt))))) (record { answer = rejected_of a; table = t })
+Called (Reclaim p) s a t = holds store.reclaim.Reads.Post (s, (p, tt)) (record { answer = result_of a; table = t })
+Called (Read i) s a t = holds store.leased_observation.Reads.Post (s, (i, tt)) (result_of a) × (t ≡ s)
+Called (Observe p) s a t = holds store.observation.Reads.Post (s, (p, tt)) (result_of a) × (t ≡ s)
+Called (Resolve q) s a t = holds store.resolve.Reads.Post (s, (q, tt)) (result_of a) × (t ≡ s)
+Called Count s a t = holds store.retained_count.Reads.Post (s, tt) (result_of a) × (t ≡ s)
 
 -- the same by the one call that takes any command
 abbrev pub Applied : (c : Command) → PublicationStore → AnswerTo c → PublicationStore → Type 0
-Applied c s a t = holds store.apply.Reads.Post (s, (c, tt)) (record { response = response_of c a; store = t })
+Applied c s a t = holds store.apply.Reads.Post (s, (c, tt)) (record { answer = response_of c a; table = t })
 
 -- one of the other queries, and what the code gives for a reply to it
 
 abbrev pub Given : Query → Type 0
-Given (leased_value i) = LeasedAnswer
-Given (value p) = HandleAnswer
+Given (leased_value i) = Result Leased Refusal
+Given (value p) = Result ℕ Refusal
 Given (contains_handle h) = Contained
-Given registry_copy = RegistryCopy
+Given registry_copy = Answered (Result (Unit {0}) Refusal) PublicationRegistry
 
 abbrev pub given : (q : Query) → ReplyTo q → Given q
-given (leased_value i) a = leased_answer_of a
-given (value p) a = handle_answer_of a
+given (leased_value i) a = result_of a
+given (value p) a = result_of a
 given (contains_handle h) a = contained_of a
 given registry_copy a = registry_copy_of a
 

@@ -20,11 +20,12 @@ use Rattle.store.specs.Columns.{columns_of}
 use Rattle.store.specs.declared.PublicationStore.{PublicationStore}
 use Rattle.trace.specs.Run.{Ran}
 use Rattle.trace.specs.Stops.{Why}
-use Rattle.trace.specs.Embedding.{stopped_of}
+use Rattle.trace.specs.Embedding.{stop_number, StoppedAs}
 use Rattle.trace.specs.Report.{longest, report_room, line_room, stop_line}
+use Rattle.trace.specs.declared.Stop.TheVariants as Stop
 use Rattle.trace.specs.declared.Stopped.{Stopped}
 use Rattle.trace.specs.declared.Reported.{Reported}
-use Rattle.demands.specs.EntryPoints.{store_entries, cell_entries, registry_entries, columns_entries, trace_entries, embed_entries, EachTotal, ReadersTotal}
+use Rattle.demands.specs.EntryPoints.{store_entries, cell_entries, registry_entries, columns_entries, trace_entries, embed_entries, number_entries, EachTotal, ReadersTotal}
 use Rattle.demands.specs.Calls.{Sound, Called, Applied, Given, given, Queried}
 use Rattle.demands.specs.RegistryCalls.{RegistrySound, RegistryCalled}
 use Rattle.demands.specs.Texts.{Run, Report}
@@ -40,13 +41,14 @@ pub record EndsWithAnAnswer : Type 3 where
   pub trace : EachTotal trace_entries
   pub readers : ReadersTotal
   pub embed : EachTotal embed_entries
+  pub numbers : EachTotal number_entries
   -- so there is an answer to any command on any store, from the command's own call or from the one call that takes any
   pub command : (c : Command) (s : PublicationStore) → (a : AnswerTo c) × (t : PublicationStore) × Called c s a t
   pub either_way : (c : Command) (s : PublicationStore) (a : AnswerTo c) (t : PublicationStore) → Called c s a t ↔ Applied c s a t
   -- and to any text, run on any store into any output: the number that stopped it, for its reason
   pub text : (s : PublicationStore) (text out : List ℕ) (r : Stopped) (left : List ℕ)
       → Run s text out r left
-      → (w : Ran StoreColumns) × (r ≡ stopped_of w) × Why box (length out) text (columns_of s) w
+      → (w : Ran StoreColumns) × StoppedAs w r × Why box (length out) text (columns_of s) w
 
 -- "Every entry point tests what it is handed": on a table that isn't sound it answers 9, and leaves the table as it came
 pub record TestsWhatItIsHanded : Type 0 where
@@ -61,17 +63,20 @@ pub record TestsWhatItIsHanded : Type 0 where
   pub text : (s : PublicationStore) (text out : List ℕ) (r : Stopped) (left : List ℕ)
       → Run s text out r left
       → ¬ Sound s
-      → (r ≡ record { store = s; stop = refusal_number BadTable; blocks = 0; read = 0; written = 0 }) × (left ≡ out)
+      → (r ≡ record { store = s; stop = Stop.BadTable; blocks = 0; read = 0; written = 0 })
+      × (stop_number r.stop ≡ refusal_number BadTable)
+      × (left ≡ out)
   -- a report tests its output and the length of its text
   pub no_room_to_report : (text out : List ℕ) (r : Reported) (left : List ℕ)
       → Report text out r left
       → length out < report_room + line_room
-      → (r ≡ record { stop = no_room; written = 0 }) × (left ≡ out)
+      → (r ≡ record { stop = Stop.NoRoom; written = 0 }) × (stop_number r.stop ≡ no_room) × (left ≡ out)
   pub too_long_to_run : (text out : List ℕ) (r : Reported) (left : List ℕ)
       → Report text out r left
       → report_room + line_room ≤ length out
       → longest < length text
-      → (r ≡ record { stop = refusal_number Capacity; written = length (stop_line 7) })
+      → (r ≡ record { stop = Stop.TooLong; written = length (stop_line 7) })
+      × (stop_number r.stop ≡ refusal_number Capacity)
       × (left ≡ stop_line 7 ++ drop (length (stop_line 7)) out)
   pub registry : (k : Call) (s : PublicationRegistry) (a : CallAnswer k) (t : PublicationRegistry)
       → RegistryCalled k s a t

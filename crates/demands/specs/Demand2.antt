@@ -6,7 +6,7 @@
 -- The rules are crates/rules/specs/Rows.antt: `tests` is the row of conditions, of which `verdict` finds the first that holds; `result` and
 -- `effect` are what is answered and what the table becomes. That they are drawn from the source is what crates/upstream shows.
 -- Assumes nothing.
-use Rattle.std.specs.Prelude.{ℕ, ◌≡◌, List}
+use Rattle.std.specs.Prelude.{ℕ, ◌≡◌, List, Option, None}
 use Rattle.rules.specs.Limits.{box}
 use Rattle.rules.specs.Answers.{refused, done, pass, stop, verdict}
 use Rattle.rules.specs.Commands.{Offered, AnswerTo, offered}
@@ -16,8 +16,6 @@ use Rattle.rules.specs.Queries.{Query, Beside, beside, query_tests, query_result
 use Rattle.rules.specs.RegistryRows.{Call, CallAnswer, call_tests, call_result, call_effect}
 use Rattle.rules.specs.Broker.{run}
 use Rattle.rules.specs.Demand2.{by_the_rows}
-use Rattle.rules.specs.declared.Domain.{Domain}
-use Rattle.rules.specs.declared.Domain.TheVariants.{Unset}
 use Rattle.rules.specs.declared.Refusal.{Refusal}
 use Rattle.rules.specs.declared.Command.{Command}
 use Rattle.registry.specs.declared.PublicationRegistry.{PublicationRegistry}
@@ -72,13 +70,13 @@ pub record Demand2 : Type 0 where
   pub one_reading : (xs ys : List Exchange) (read v w : List ℕ) → WrittenDown xs read v → WrittenDown ys read w → commands xs ≡ commands ys
   -- a new store is the empty one and sound, and a sound one stays sound: so the rows answer every command of a session, and give the whole
   -- table after it
-  pub new : (d : Domain) (s : PublicationStore) → Made d s → (s ≡ stored (empty_store d)) × Sound s
+  pub new : (d : Option ℕ) (s : PublicationStore) → Made d s → (s ≡ stored (empty_store d)) × Sound s
   pub stays_sound : (c : Command) (s : PublicationStore) (a : AnswerTo c) (t : PublicationStore) → Called c s a t → Sound s → Sound t
   pub session : (xs : List Exchange) (t : PublicationStore) (k : Session xs t)
       → (xs ≡ by_the_rules (empty_store k.domain) (commands xs))
       × (t ≡ stored (run (by_the_rows box (empty_store k.domain)) (empty_store k.domain) (commands xs)))
-  pub new_registry : (d : Domain) (s : PublicationRegistry) → RegistryMade d s → (s ≡ registered (empty_registry d)) × RegistrySound s
-  pub default_registry : (s : PublicationRegistry) → RegistryByDefault s → RegistryMade Unset s
+  pub new_registry : (d : Option ℕ) (s : PublicationRegistry) → RegistryMade d s → (s ≡ registered (empty_registry d)) × RegistrySound s
+  pub default_registry : (s : PublicationRegistry) → RegistryByDefault s → RegistryMade None s
   pub registry_stays_sound : (k : Call) (s : PublicationRegistry) (a : CallAnswer k) (t : PublicationRegistry)
       → RegistryCalled k s a t
       → RegistrySound s

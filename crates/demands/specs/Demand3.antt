@@ -8,7 +8,7 @@
 --
 -- What a history says, `holding`, `outstanding`, `unreleased`, `accepted`, `handed_back`, stands in crates/rules/specs/History.antt.
 -- Assumes nothing.
-use Rattle.std.specs.Prelude.{ℕ, ◌+◌, ◌≤◌, ◌≡◌, ◌≢◌, List, [], ◌∷◌, ◌++◌, length}
+use Rattle.std.specs.Prelude.{ℕ, ◌+◌, ◌≤◌, ◌≡◌, ◌≢◌, List, [], ◌∷◌, ◌++◌, length, Option}
 use Rattle.std.proofs.Math.Option.{none, some}
 use Rattle.rules.specs.Answers.{refused, done}
 use Rattle.rules.specs.Commands.{AnswerTo}
@@ -16,7 +16,6 @@ use Rattle.rules.specs.History.{accepted, handed_back, times, holding, outstandi
 use Rattle.rules.specs.Demand3.{shown}
 use Rattle.rules.specs.declared.PublicationId.{PublicationId}
 use Rattle.rules.specs.declared.LeaseId.{LeaseId}
-use Rattle.rules.specs.declared.Domain.{Domain}
 use Rattle.rules.specs.declared.Refusal.TheVariants.{Relied}
 use Rattle.rules.specs.declared.Command.{Command}
 use Rattle.rules.specs.declared.Command.TheVariants.{Revoke, Reclaim, Observe, Count}
@@ -47,7 +46,7 @@ module _ (p : PublicationId) (earlier between : List Exchange) where
 
 pub record Demand3 : Type 0 where
   -- "Take any sequence of commands from an empty store": there is a session of it
-  pub any_sequence : (d : Domain) (cs : List Command)
+  pub any_sequence : (d : Option ℕ) (cs : List Command)
       → (xs : List Exchange) × (t : PublicationStore) × (k : Session xs t) × (k.domain ≡ d) × (commands xs ≡ cs)
   -- "until those n are released every reclaim of it answers Relied"
   pub relied : (p : PublicationId) (earlier between : List Exchange) (a : AnswerTo (Reclaim p))
@@ -73,7 +72,7 @@ pub record Demand3 : Type 0 where
       → Called (Observe p) t a u
       → shown p a ≡ retained_at t p
   -- all of this holds of bytes: a text run on a new store is a session, of the commands read and the answers written
-  pub text : (d : Domain) (s : PublicationStore) (text out : List ℕ) (r : Stopped) (left : List ℕ)
+  pub text : (d : Option ℕ) (s : PublicationStore) (text out : List ℕ) (r : Stopped) (left : List ℕ)
       → Made d s
       → Run s text out r left
       → (b : MadeTheCalls s text out r left) × Session b.exchanges r.store

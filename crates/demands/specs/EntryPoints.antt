@@ -1,5 +1,5 @@
 -- The entry points: every public call of the store, of the value cell, of the registry, of the tests of columns, of the trace, of its text, of
--- the trace reader and of the library for C, each with the contract that its source states and the code that the machine runs.
+-- the trace reader, of the library for C and of the numbers of refusals and stops, each with the contract that its source states and the code that the machine runs.
 -- Assumes nothing.
 use Rattle.std.specs.Prelude.{ℕ, ◌≡◌, List, [], ◌∷◌}
 use base.Logic.{ent, emp, sep}
@@ -18,6 +18,7 @@ use prog.Memory.{Memory}
 use prog.Routine.{Callee, Env, step}
 use prog.Wired.{Code, Wired}
 use borrow.Fn.Kinds.{ParamKind, ResultKind, In, Out}
+use Rattle.rules.proofs.U64FromRefusal as refusal
 use Rattle.registry.proofs.PublicationRegistry as registry
 use Rattle.store.proofs.PublicationStore as store
 use Rattle.store.proofs.ValueCell as cell
@@ -28,6 +29,7 @@ use Rattle.blocks.proofs as blocks
 use Rattle.reader.proofs as reader
 use Rattle.reader.specs.contracts as contracts
 use Rattle.trace.proofs as trace
+use Rattle.trace.proofs.U64FromStop as stop
 use Rattle.embed.proofs as embed
 use Rattle.demands.specs.Built.{built}
 use Rattle.demands.specs.Ends.{Entry, Held, Total}
@@ -137,6 +139,12 @@ embed_entries =
     ∷ entry embed.lease_broker_name.Kinds.ps embed.lease_broker_name.Kinds.r embed.lease_broker_name.Reads.Asked embed.lease_broker_name.Reads.Post embed.lease_broker_name.Symbol.code embed.lease_broker_name.Symbol.name
     ∷ []
 
+abbrev pub number_entries : List Entry
+number_entries =
+    entry refusal.from.Kinds.ps refusal.from.Kinds.r refusal.from.Reads.Asked refusal.from.Reads.Post refusal.from.Symbol.code refusal.from.Symbol.name
+    ∷ entry stop.from.Kinds.ps stop.from.Kinds.r stop.from.Reads.Asked stop.from.Reads.Post stop.from.Symbol.code stop.from.Symbol.name
+    ∷ []
+
 infixr 20 ◌and◌
 -- each of them is total
 pub data EachTotal : List Entry → Type 3 where
@@ -189,19 +197,19 @@ module _ (f : ReaderEntry) where
 
 abbrev pub reader_new : ReaderEntry
 reader_new =
-    record { ended = contracts.new.ended; contract = contracts.new.clauses logic₀ model⁺.mem real⁺.returns; ghost = λ κs a. tt; code = reader.new.Symbol.code; name = reader.new.Symbol.name }
+    record { ended = contracts.Reader.new.ended; contract = contracts.Reader.new.clauses logic₀ model⁺.mem real⁺.returns; ghost = λ κs a. tt; code = reader.Reader.new.Symbol.code; name = reader.Reader.new.Symbol.name }
 
 abbrev pub reader_at_end : ReaderEntry
 reader_at_end =
-    record { ended = contracts.at_end.ended; contract = contracts.at_end.clauses logic₀ model⁺.mem real⁺.returns; ghost = λ κs a. tt; code = reader.at_end.Symbol.code; name = reader.at_end.Symbol.name }
+    record { ended = contracts.Reader.at_end.ended; contract = contracts.Reader.at_end.clauses logic₀ model⁺.mem real⁺.returns; ghost = λ κs a. tt; code = reader.Reader.at_end.Symbol.code; name = reader.Reader.at_end.Symbol.name }
 
 abbrev pub reader_next_block : ReaderEntry
 reader_next_block =
-    record { ended = contracts.next_block.ended; contract = contracts.next_block.clauses logic₀ model⁺.mem real⁺.returns; ghost = λ κs a. tt; code = reader.next_block.Symbol.code; name = reader.next_block.Symbol.name }
+    record { ended = contracts.Reader.next_block.ended; contract = contracts.Reader.next_block.clauses logic₀ model⁺.mem real⁺.returns; ghost = λ κs a. tt; code = reader.Reader.next_block.Symbol.code; name = reader.Reader.next_block.Symbol.name }
 
 abbrev pub reader_moved : ReaderEntry
 reader_moved =
-    record { ended = contracts.moved.ended; contract = contracts.moved.clauses logic₀ model⁺.mem real⁺.returns; ghost = λ κs a. tt; code = reader.moved.Symbol.code; name = reader.moved.Symbol.name }
+    record { ended = contracts.Reader.moved.ended; contract = contracts.Reader.moved.clauses logic₀ model⁺.mem real⁺.returns; ghost = λ κs a. tt; code = reader.Reader.moved.Symbol.code; name = reader.Reader.moved.Symbol.name }
 
 pub record ReadersTotal : Type 2 where
   pub new : ReaderTotal reader_new

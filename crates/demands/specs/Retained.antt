@@ -9,7 +9,7 @@ use Rattle.store.specs.declared.PublicationStore.{PublicationStore}
 module _ (t : PublicationStore) where
   -- at one place: the payload, if the record there is retained
   abbrev pub retained_at : PublicationId → List ℕ
-  retained_at p = cond (at t.publications p).retained (get_or t.payloads p.0 0 ∷ []) []
+  retained_at p = cond (at t.registry.publications p).retained (get_or t.payloads p.0 0 ∷ []) []
 
   unfoldable pub retained_below : ℕ → List ℕ
   retained_below zero = []

@@ -1,12 +1,11 @@
 -- A session: public calls made one after the other, from an empty store on, and what its answers tell.
 -- Assumes nothing.
-use Rattle.std.specs.Prelude.{◌≡◌, List, [], ◌∷◌, ◌++◌}
+use Rattle.std.specs.Prelude.{◌≡◌, List, [], ◌∷◌, ◌++◌, Option, ℕ}
 use Rattle.rules.specs.Limits.{box}
 use Rattle.rules.specs.Commands.{AnswerTo}
 use Rattle.rules.specs.Table.{Store}
 use Rattle.rules.specs.Rows.{step}
 use Rattle.rules.specs.Broker.{Event, events}
-use Rattle.rules.specs.declared.Domain.{Domain}
 use Rattle.rules.specs.declared.Command.{Command}
 use Rattle.store.specs.declared.PublicationStore.{PublicationStore}
 use Rattle.demands.specs.Calls.{Made, Called}
@@ -28,7 +27,7 @@ Leads s (x ∷ xs) t = (u : PublicationStore) × Called x.command s x.answer u �
 
 -- from a new store, with or without domain
 pub record Session (xs : List Exchange) (t : PublicationStore) : Type 0 where
-  pub domain : Domain
+  pub domain : Option ℕ
   pub first : PublicationStore
   pub made : Made domain first
   pub leads : Leads first xs t

@@ -9,6 +9,7 @@ use Rattle.rules.specs.declared.Response.{Response}
 use Rattle.blocks.specs.Answers.{answers_text}
 use Rattle.store.specs.declared.PublicationStore.{PublicationStore}
 use Rattle.trace.specs.Report.{stop_line}
+use Rattle.trace.specs.Embedding.{stop_number}
 use Rattle.trace.specs.Followed.{Blocks}
 use Rattle.trace.specs.declared.Stopped.{Stopped}
 use Rattle.trace.specs.declared.Reported.{Reported}
@@ -62,4 +63,4 @@ pub record ToldASession (text : List ℕ) (r : Reported) (left : List ℕ) : Typ
   pub read : ℕ
   pub answers : List ℕ
   pub bytes : WrittenDown exchanges (take read text) answers
-  pub told : take r.written left ≡ answers ++ stop_line r.stop
+  pub told : take r.written left ≡ answers ++ stop_line (stop_number r.stop)

@@ -1,16 +1,15 @@
 -- What a caller in C is handed: the run from an empty store without domain, its counts, and a name where there is room for any.
 -- Assumes nothing.
-use Rattle.std.specs.Prelude.{ℕ, ◌≡◌, cond, List, [], ◌∷◌, ltb, length}
+use Rattle.std.specs.Prelude.{ℕ, ◌≡◌, cond, List, [], ◌∷◌, ltb, length, None}
 use Rattle.rules.specs.Limits.{box}
 use Rattle.rules.specs.Refusals.{name_of}
 use Rattle.rules.specs.Table.{Store, empty_store}
-use Rattle.rules.specs.declared.Domain.TheVariants.{Unset}
 use Rattle.writing.specs.Written.{over}
 use Rattle.trace.specs.Run.{Ran, run_sound}
 use Rattle.trace.specs.Report.{Report}
 
 abbrev pub run_empty : (room : ℕ) → List ℕ → Ran Store
-run_empty room trace = run_sound box room trace (empty_store Unset)
+run_empty room trace = run_sound box room trace (empty_store None)
 
 -- the blocks done, the bytes read and the bytes written
 abbrev pub counts_of : Ran Store → List ℕ

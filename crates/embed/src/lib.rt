@@ -1,6 +1,8 @@
 // The run of a trace, its report and the name of a number, as programs in C call them: crate embed_c exports these calls.
 //
 // A call works in the bytes that it is lent and on its own stack. It keeps nothing: the next run starts from an empty store again.
+//
+// Nothing that an entry point reaches calls a function of the library: docs/DESIGN-PASS.md says why, and what stands in its place.
 #![tactic(auto)]
 
 ghost use Rattle.std.specs.Prelude.{length};
@@ -18,7 +20,7 @@ pub fn lease_broker_run(trace: &[u8], out: &mut [u8], counts: &mut [u64; 3]) -> 
 {
     let r = trace::run(PublicationStore::new(), trace, out);
     *counts = [r.blocks, r.read as u64, r.written as u64];
-    r.stop
+    u64::from(r.stop)
 }
 
 // Writes the report of a trace into out, as the program prints it. Answers the number that the report tells; written gets its length.
@@ -27,7 +29,7 @@ pub fn lease_broker_report(trace: &[u8], out: &mut [u8], written: &mut u64) -> u
 {
     let r = trace::report(trace, out);
     *written = r.written as u64;
-    r.stop
+    u64::from(r.stop)
 }
 
 // Writes the name of a number at the start of out and answers its length. An out of fewer than 12 bytes is left as it is, and answered 0.

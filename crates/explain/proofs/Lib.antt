@@ -1,3 +1,2 @@
-pub mod Retained
 pub mod Runs
 pub mod Shapes

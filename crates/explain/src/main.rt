@@ -4,29 +4,26 @@
 
 mod commands;
 mod ending;
-mod line;
-mod told;
 
-ghost use Rattle.std.specs.Prelude.{◌≡◌};
 ghost use Rattle.rules.specs.Limits.{box};
 ghost use Rattle.trace.specs.Run.{laid};
-ghost use Rattle.trace.specs.Embedding.{stopped_of};
+ghost use Rattle.trace.specs.Embedding.{StoppedAs};
 ghost use Rattle.explain.specs.Told.{told_run};
 
 use std::io;
 use store::PublicationStore;
-use trace::Stopped;
+use trace::{Stop, Stopped};
 
 // The run that a report tells: from an empty store without domain, with 65,536 bytes of room for the answers. A trace of more than 65,536
-// bytes is not run, and stops with 7.
+// bytes is not run, and stops with TooLong (7).
 fn run(input: &[u8]) -> Stopped
-    ensures { result ≡ stopped_of (laid box (told_run box input.now)) }
+    ensures { StoppedAs (laid box (told_run box input.now)) result }
 {
     let store = PublicationStore::new();
     if 65536 < input.len() {
         return Stopped {
-            store: store,
-            stop: 7,
+            store,
+            stop: Stop::TooLong,
             blocks: 0,
             read: 0,
             written: 0,

@@ -5,7 +5,6 @@ pub mod Every
 pub mod Column
 pub mod Total
 pub mod Append
-pub mod Numbers
 pub mod Bounds
 pub mod Marks
 pub mod Removal
@@ -14,3 +13,4 @@ pub mod Below
 pub mod Ended
 pub mod Groups
 pub mod Bijection
+pub mod Props

@@ -6,10 +6,10 @@ use prog.LinkedThreads.{HasT}
 use prog.Wired.{Code}
 use Rattle.reader.proofs.TheLink as link
 use Rattle.reader.proofs.block_after.Symbol as block_after
-use Rattle.reader.proofs.new.Symbol as new
-use Rattle.reader.proofs.at_end.Symbol as at_end
-use Rattle.reader.proofs.next_block.Symbol as next_block
-use Rattle.reader.proofs.moved.Symbol as moved
+use Rattle.reader.proofs.Reader.new.Symbol as Reader-new
+use Rattle.reader.proofs.Reader.at_end.Symbol as Reader-at_end
+use Rattle.reader.proofs.Reader.next_block.Symbol as Reader-next_block
+use Rattle.reader.proofs.Reader.moved.Symbol as Reader-moved
 
 -- its functions, and what it needs of the crates below
 
@@ -26,14 +26,14 @@ Stands c = (W : World) → Holds W "reader" table → Below W → HasT (in_world
 pub block_after-stands : Stands block_after.code
 block_after-stands = link.linked-reader::block_after
 
-pub new-stands : Stands new.code
-new-stands = link.linked-reader::new
+pub Reader-new-stands : Stands Reader-new.code
+Reader-new-stands = link.linked-reader::Reader::new
 
-pub at_end-stands : Stands at_end.code
-at_end-stands = link.linked-reader::at_end
+pub Reader-at_end-stands : Stands Reader-at_end.code
+Reader-at_end-stands = link.linked-reader::Reader::at_end
 
-pub next_block-stands : Stands next_block.code
-next_block-stands = link.linked-reader::next_block
+pub Reader-next_block-stands : Stands Reader-next_block.code
+Reader-next_block-stands = link.linked-reader::Reader::next_block
 
-pub moved-stands : Stands moved.code
-moved-stands = link.linked-reader::moved
+pub Reader-moved-stands : Stands Reader-moved.code
+Reader-moved-stands = link.linked-reader::Reader::moved

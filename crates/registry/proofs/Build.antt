@@ -25,6 +25,15 @@ use Rattle.registry.proofs.PublicationRegistry.leased_slot.Symbol as Publication
 use Rattle.registry.proofs.PublicationRegistry.release.Symbol as PublicationRegistry-release
 use Rattle.registry.proofs.PublicationRegistry.revoke.Symbol as PublicationRegistry-revoke
 use Rattle.registry.proofs.PublicationRegistry.reclaim.Symbol as PublicationRegistry-reclaim
+use Rattle.registry.proofs.inner.empty.Symbol as inner-empty
+use Rattle.registry.proofs.inner.refused.Symbol as inner-refused
+use Rattle.registry.proofs.inner.Sound.publications.Symbol as inner-Sound-publications
+use Rattle.registry.proofs.inner.Sound.leases.Symbol as inner-Sound-leases
+use Rattle.registry.proofs.inner.Sound.resolve.Symbol as inner-Sound-resolve
+use Rattle.registry.proofs.inner.Sound.adopt.Symbol as inner-Sound-adopt
+use Rattle.registry.proofs.inner.Sound.acquire.Symbol as inner-Sound-acquire
+use Rattle.registry.proofs.inner.Sound.release.Symbol as inner-Sound-release
+use Rattle.registry.proofs.inner.Sound.revoke.Symbol as inner-Sound-revoke
 
 -- its functions, and what it needs of the crates below
 
@@ -97,3 +106,30 @@ PublicationRegistry-revoke-stands = link.linked-registry::PublicationRegistry::r
 
 pub PublicationRegistry-reclaim-stands : Stands PublicationRegistry-reclaim.code
 PublicationRegistry-reclaim-stands = link.linked-registry::PublicationRegistry::reclaim
+
+pub inner-empty-stands : Stands inner-empty.code
+inner-empty-stands = link.linked-registry::inner::empty
+
+pub inner-refused-stands : Stands inner-refused.code
+inner-refused-stands = link.linked-registry::inner::refused
+
+pub inner-Sound-publications-stands : Stands inner-Sound-publications.code
+inner-Sound-publications-stands = link.linked-registry::inner::Sound::publications
+
+pub inner-Sound-leases-stands : Stands inner-Sound-leases.code
+inner-Sound-leases-stands = link.linked-registry::inner::Sound::leases
+
+pub inner-Sound-resolve-stands : Stands inner-Sound-resolve.code
+inner-Sound-resolve-stands = link.linked-registry::inner::Sound::resolve
+
+pub inner-Sound-adopt-stands : Stands inner-Sound-adopt.code
+inner-Sound-adopt-stands = link.linked-registry::inner::Sound::adopt
+
+pub inner-Sound-acquire-stands : Stands inner-Sound-acquire.code
+inner-Sound-acquire-stands = link.linked-registry::inner::Sound::acquire
+
+pub inner-Sound-release-stands : Stands inner-Sound-release.code
+inner-Sound-release-stands = link.linked-registry::inner::Sound::release
+
+pub inner-Sound-revoke-stands : Stands inner-Sound-revoke.code
+inner-Sound-revoke-stands = link.linked-registry::inner::Sound::revoke

@@ -1,6 +1,5 @@
+pub mod Guard
 pub mod Steps
-pub mod Publishing
-pub mod Changing
-pub mod Leasing
-pub mod Releasing
+pub mod Publications
+pub mod Leases
 pub mod Build

@@ -1,322 +1,285 @@
 // The calls on a registry that is known to be sound: no entry points, but what a crate above builds on.
-ghost use Rattle.std.specs.Prelude.{◌≡◌};
+ghost use Rattle.std.specs.Prelude.{◌≡◌, true, Err, is_some, IfSome, take};
 ghost use Rattle.rules.specs.Limits.{box};
 ghost use Rattle.rules.specs.Table.{empty_registry};
 ghost use Rattle.rules.specs.Columns.{used_registry, filled_registry};
+ghost use Rattle.rules.specs.SoundTest.{registry_test};
 ghost use Rattle.rules.specs.Sound.{RegistryColumnsSound};
+ghost use Rattle.rules.proofs.Props.{registry_prop};
 ghost use Rattle.rules.specs.RegistryRows.{registry_step, publish, can_adopt, adopt, check_lease_capacity, acquire, leased_slot, release, revoke, reclaim, resolve, entry, lease, domain, publication_records, lease_record_count, lease_allocation_count};
 ghost use Rattle.rules.specs.Calls.{laid_out_registry};
 ghost use Rattle.registry.specs.Columns.{columns_of, registry_of};
-ghost use Rattle.registry.specs.Answers.{id_answer_of, slot_answer_of, plain_of, publication_answer_of, lease_answer_of, domain_answer_of, count_answer_of, plain_verdict, published_of, acquired_of, changed_of, reclaimed_of};
+ghost use Rattle.registry.specs.Answers.{result_of, answered_of};
 
-use crate::{
-    Acquired, Changed, CountAnswer, DomainAnswer, IdAnswer, LeaseAnswer, LeaseIdAnswer, Plain,
-    PublicationAnswer, PublicationRegistry, Published, Reclaimed, SlotAnswer,
-};
+use crate::{PublicationRegistry, soundness};
 use columns::inner::{close_up, rows, search};
-use columns::{Lookup, Place, Verdict, records};
-use rules::{Consumer, Domain, Lease, LeaseId, Owner, Port, Publication, PublicationId, Refusal};
+use columns::records;
+use rules::{Answered, Consumer, Lease, LeaseId, Owner, Port, Publication, PublicationId, Refusal};
 
-pub fn empty(domain: Domain) -> PublicationRegistry
+#[tactic(auto, unfolding(lists::specs::Column::padded))]
+pub fn empty(domain: Option<u64>) -> PublicationRegistry
     ensures { result ≡ registry_of (filled_registry box (empty_registry domain)) }
 {
-    let e = records::blank_publication();
-    let l = records::blank_lease();
-    let publications = [e; 96];
-    let leases = [l; 128];
     PublicationRegistry {
-        domain: domain,
-        publications: publications,
+        domain,
+        publications: [records::blank_publication(); 96],
         count: 0,
-        leases: leases,
+        leases: [records::blank_lease(); 128],
         active: 0,
         counter: 0,
     }
 }
 
-pub fn domain(registry: PublicationRegistry) -> DomainAnswer
-    ensures { result ≡ domain_answer_of (registry_step box (used_registry (columns_of registry)) domain).answer }
-{
-    let domain = registry.domain;
-    DomainAnswer::Is(domain)
+// A registry that is known to be sound.
+#[derive(Clone, Copy)]
+pub struct Sound {
+    pub registry: PublicationRegistry,
+    pub ghost is: { RegistryColumnsSound box (columns_of registry) } by { registry_prop box _ },
 }
 
-pub fn publication_records(registry: PublicationRegistry) -> CountAnswer
-    requires { RegistryColumnsSound box (columns_of registry) }
-    ensures { result ≡ count_answer_of (registry_step box (used_registry (columns_of registry)) publication_records).answer }
+// A refusal, and the table as it came.
+pub fn refused<A, E, T>(why: E, table: T) -> Answered<Result<A, E>, T>
+    ensures { result ≡ record { answer = Err why; table = table } }
 {
-    CountAnswer::Count(registry.count as u64)
-}
-
-pub fn lease_record_count(registry: PublicationRegistry) -> CountAnswer
-    requires { RegistryColumnsSound box (columns_of registry) }
-    ensures { result ≡ count_answer_of (registry_step box (used_registry (columns_of registry)) lease_record_count).answer }
-{
-    CountAnswer::Count(registry.active as u64)
-}
-
-pub fn lease_allocation_count(registry: PublicationRegistry) -> CountAnswer
-    ensures { result ≡ count_answer_of (registry_step box (used_registry (columns_of registry)) lease_allocation_count).answer }
-{
-    CountAnswer::Count(registry.counter)
-}
-
-pub fn entry(registry: PublicationRegistry, id: PublicationId) -> PublicationAnswer
-    requires { RegistryColumnsSound box (columns_of registry) }
-    ensures { result ≡ publication_answer_of (registry_step box (used_registry (columns_of registry)) (entry id)).answer }
-{
-    let i = id.0 as usize;
-    let count = registry.count;
-    if count <= i {
-        return PublicationAnswer::Refused(Refusal::Absent);
+    Answered {
+        answer: Err(why),
+        table,
     }
-    let e = registry.publications[i];
-    PublicationAnswer::Record(e)
 }
 
-pub fn lease(registry: PublicationRegistry, id: LeaseId) -> LeaseAnswer
-    requires { RegistryColumnsSound box (columns_of registry) }
-    ensures { result ≡ lease_answer_of (registry_step box (used_registry (columns_of registry)) (lease id)).answer }
+// These two ask nothing of the registry.
+
+#[tactic(auto, unfolding(rules::specs::RegistryRows::registry_step))]
+pub fn domain(registry: PublicationRegistry) -> Result<Option<u64>, Refusal>
+    ensures { result ≡ result_of (registry_step box (used_registry (columns_of registry)) domain).answer }
 {
-    let active = registry.active;
-    let leases = registry.leases;
-    match search::lease_place(leases, active, id) {
-        Place::Nowhere => LeaseAnswer::Refused(Refusal::Absent),
-        Place::At(i) => {
-            let l = leases[i];
-            LeaseAnswer::Record(l)
+    Ok(registry.domain)
+}
+
+#[tactic(auto, unfolding(rules::specs::RegistryRows::registry_step))]
+pub fn lease_allocation_count(registry: PublicationRegistry) -> Result<u64, Refusal>
+    ensures { result ≡ result_of (registry_step box (used_registry (columns_of registry)) lease_allocation_count).answer }
+{
+    Ok(registry.counter)
+}
+
+impl Sound {
+    // The registry, if it passes the test for 9.
+    pub fn tested(registry: PublicationRegistry) -> Option<Sound>
+        ensures test { is_some result ≡ registry_test box (columns_of registry) }
+        ensures same { IfSome result (λ s. s.registry ≡ registry) }
+    {
+        if soundness::is_sound(registry) {
+            return Some(Sound { registry });
+        }
+        None
+    }
+
+    // The publications that were given out.
+    pub fn publications(&self) -> &[Publication]
+        ensures { result.now ≡ take self.now.registry.count self.now.registry.publications }
+    {
+        &self.registry.publications[..self.registry.count]
+    }
+
+    // The leases that are active.
+    pub fn leases(&self) -> &[Lease]
+        ensures { result.now ≡ take self.now.registry.active self.now.registry.leases }
+    {
+        &self.registry.leases[..self.registry.active]
+    }
+
+    #[tactic(auto, using(rules::proofs::Columns::count_used), unfolding(rules::specs::RegistryRows::registry_step))]
+    pub fn publication_records(self) -> Result<u64, Refusal>
+        ensures { result ≡ result_of (registry_step box (used_registry (columns_of self.registry)) publication_records).answer }
+    {
+        Ok(self.registry.count as u64)
+    }
+
+    #[tactic(auto, using(rules::proofs::Columns::active_used), unfolding(rules::specs::RegistryRows::registry_step))]
+    pub fn lease_record_count(self) -> Result<u64, Refusal>
+        ensures { result ≡ result_of (registry_step box (used_registry (columns_of self.registry)) lease_record_count).answer }
+    {
+        Ok(self.registry.active as u64)
+    }
+
+    pub fn entry(self, id: PublicationId) -> Result<Publication, Refusal>
+        ensures { result ≡ result_of (registry_step box (used_registry (columns_of self.registry)) (entry id)).answer }
+    {
+        match search::known(self.publications(), id) {
+            None => Err(Refusal::Absent),
+            Some(e) => Ok(e),
         }
     }
-}
 
-pub fn resolve(registry: PublicationRegistry, port: Port) -> IdAnswer
-    requires { RegistryColumnsSound box (columns_of registry) }
-    ensures { result ≡ id_answer_of (registry_step box (used_registry (columns_of registry)) (resolve port)).answer }
-{
-    let count = registry.count;
-    let publications = registry.publications;
-    match search::port_place(publications, count, port) {
-        Place::Nowhere => IdAnswer::Refused(Refusal::Absent),
-        Place::At(i) => IdAnswer::Id(PublicationId(i as u64)),
+    pub fn lease(self, id: LeaseId) -> Result<Lease, Refusal>
+        ensures { result ≡ result_of (registry_step box (used_registry (columns_of self.registry)) (lease id)).answer }
+    {
+        match search::lease_place(self.leases(), id) {
+            None => Err(Refusal::Absent),
+            Some(i) => Ok(self.registry.leases[i]),
+        }
     }
-}
 
-pub fn publish(
-    mut registry: PublicationRegistry,
-    owner: Owner,
-    generation: u64,
-    port: Port,
-    slot: u64,
-) -> Published
-    requires { RegistryColumnsSound box (columns_of registry) }
-    ensures { result ≡ published_of (laid_out_registry box (registry_step box (used_registry (columns_of registry)) (publish owner generation port slot))) }
-{
-    let publications = registry.publications;
-    let count = registry.count;
-    match rows::slot_publish_verdict(publications, count, port, slot) {
-        Verdict::Stop(r) => Published {
-            answer: IdAnswer::Refused(r),
-            registry: registry,
-        },
-        Verdict::Pass => {
-            registry.publications[count] = Publication {
-                owner: owner,
-                generation: generation,
-                port: port,
-                slot: slot,
-                visible: true,
-                retained: true,
-            };
-            registry.count = count + 1;
-            Published {
-                answer: IdAnswer::Id(PublicationId(count as u64)),
-                registry: registry,
+    pub fn resolve(self, port: Port) -> Result<PublicationId, Refusal>
+        ensures { result ≡ result_of (registry_step box (used_registry (columns_of self.registry)) (resolve port)).answer }
+    {
+        match search::port_place(self.publications(), port) {
+            None => Err(Refusal::Absent),
+            Some(i) => Ok(PublicationId(i as u64)),
+        }
+    }
+
+    pub fn publish(
+        self,
+        owner: Owner,
+        generation: u64,
+        port: Port,
+        slot: u64,
+    ) -> Answered<Result<PublicationId, Refusal>, PublicationRegistry>
+        ensures { result ≡ answered_of (laid_out_registry box (registry_step box (used_registry (columns_of self.registry)) (publish owner generation port slot))) }
+    {
+        let mut registry = self.registry;
+        let at = registry.count;
+        match rows::slot_publish_verdict(self.publications(), port, slot) {
+            Err(why) => refused(why, registry),
+            Ok(()) => {
+                registry.publications[at] = Publication {
+                    owner,
+                    generation,
+                    port,
+                    slot,
+                    visible: true,
+                    retained: true,
+                };
+                registry.count = at + 1;
+                Answered {
+                    answer: Ok(PublicationId(at as u64)),
+                    table: registry,
+                }
             }
         }
     }
-}
 
-pub fn can_adopt(
-    registry: PublicationRegistry,
-    id: PublicationId,
-    owner: Owner,
-    generation: u64,
-) -> Plain
-    requires { RegistryColumnsSound box (columns_of registry) }
-    ensures { result ≡ plain_of (registry_step box (used_registry (columns_of registry)) (can_adopt id owner generation)).answer }
-{
-    let publications = registry.publications;
-    let leases = registry.leases;
-    let verdict = rows::adopt_verdict(
-        publications,
-        registry.count,
-        leases,
-        registry.active,
-        id,
-        owner,
-        generation,
-    );
-    plain(verdict)
-}
+    #[tactic(auto, using(crate::proofs::Leases::can_adopt_told))]
+    pub fn can_adopt(self, id: PublicationId, owner: Owner, generation: u64) -> Result<(), Refusal>
+        ensures { result ≡ result_of (registry_step box (used_registry (columns_of self.registry)) (can_adopt id owner generation)).answer }
+    {
+        rows::adopt_verdict(self.publications(), self.leases(), id, owner, generation)
+    }
 
-pub fn adopt(
-    mut registry: PublicationRegistry,
-    id: PublicationId,
-    owner: Owner,
-    generation: u64,
-) -> Changed
-    requires { RegistryColumnsSound box (columns_of registry) }
-    ensures { result ≡ changed_of (laid_out_registry box (registry_step box (used_registry (columns_of registry)) (adopt id owner generation))) }
-{
-    let publications = registry.publications;
-    let leases = registry.leases;
-    match rows::adopt_verdict(
-        publications,
-        registry.count,
-        leases,
-        registry.active,
-        id,
-        owner,
-        generation,
-    ) {
-        Verdict::Stop(r) => Changed {
-            answer: Plain::Refused(r),
-            registry: registry,
-        },
-        Verdict::Pass => {
-            let i = id.0 as usize;
-            registry.publications[i].generation = 1;
-            Changed {
-                answer: Plain::Done,
-                registry: registry,
+    pub fn adopt(
+        self,
+        id: PublicationId,
+        owner: Owner,
+        generation: u64,
+    ) -> Answered<Result<(), Refusal>, PublicationRegistry>
+        ensures { result ≡ answered_of (laid_out_registry box (registry_step box (used_registry (columns_of self.registry)) (adopt id owner generation))) }
+    {
+        let mut registry = self.registry;
+        let answer = rows::adopt_verdict(self.publications(), self.leases(), id, owner, generation);
+        if let Ok(()) = answer {
+            registry.publications[id.0 as usize].generation = 1;
+        }
+        Answered {
+            answer,
+            table: registry,
+        }
+    }
+
+    pub fn check_lease_capacity(self, count: u64) -> Result<(), Refusal>
+        ensures { result ≡ result_of (registry_step box (used_registry (columns_of self.registry)) (check_lease_capacity count)).answer }
+    {
+        rows::capacity_verdict(self.registry.active, self.registry.counter, count)
+    }
+
+    pub fn acquire(
+        self,
+        id: PublicationId,
+        consumer: Option<Consumer>,
+    ) -> Answered<Result<LeaseId, Refusal>, PublicationRegistry>
+        ensures { result ≡ answered_of (laid_out_registry box (registry_step box (used_registry (columns_of self.registry)) (acquire id consumer))) }
+    {
+        let mut registry = self.registry;
+        let at = registry.active;
+        let counter = registry.counter;
+        match rows::acquire_verdict(self.publications(), self.leases(), counter, id) {
+            Err(why) => refused(why, registry),
+            Ok(()) => {
+                registry.leases[at] = Lease {
+                    id: LeaseId(counter),
+                    publication: id,
+                    consumer,
+                };
+                registry.active = at + 1;
+                registry.counter = counter + 1;
+                Answered {
+                    answer: Ok(LeaseId(counter)),
+                    table: registry,
+                }
             }
         }
     }
-}
 
-pub fn check_lease_capacity(registry: PublicationRegistry, count: u64) -> Plain
-    requires { RegistryColumnsSound box (columns_of registry) }
-    ensures { result ≡ plain_of (registry_step box (used_registry (columns_of registry)) (check_lease_capacity count)).answer }
-{
-    plain(rows::capacity_verdict(registry.active, registry.counter, count))
-}
-
-pub fn acquire(mut registry: PublicationRegistry, id: PublicationId, consumer: Consumer) -> Acquired
-    requires { RegistryColumnsSound box (columns_of registry) }
-    ensures { result ≡ acquired_of (laid_out_registry box (registry_step box (used_registry (columns_of registry)) (acquire id consumer))) }
-{
-    let publications = registry.publications;
-    let at = registry.active;
-    let counter = registry.counter;
-    match rows::acquire_verdict(publications, registry.count, at, counter, id) {
-        Verdict::Stop(r) => Acquired {
-            answer: LeaseIdAnswer::Refused(r),
-            registry: registry,
-        },
-        Verdict::Pass => {
-            registry.leases[at] = Lease {
-                id: LeaseId(counter),
-                publication: id,
-                consumer: consumer,
-            };
-            registry.active = at + 1;
-            registry.counter = counter + 1;
-            Acquired {
-                answer: LeaseIdAnswer::Id(LeaseId(counter)),
-                registry: registry,
+    pub fn leased_slot(self, lease: LeaseId) -> Result<u64, Refusal>
+        ensures { result ≡ result_of (registry_step box (used_registry (columns_of self.registry)) (leased_slot lease)).answer }
+    {
+        match rows::lease_lookup(self.leases(), self.registry.counter, lease) {
+            Err(why) => Err(why),
+            Ok(i) => {
+                let id = self.registry.leases[i].publication;
+                Ok(self.registry.publications[id.0 as usize].slot)
             }
         }
     }
-}
 
-pub fn leased_slot(registry: PublicationRegistry, lease: LeaseId) -> SlotAnswer
-    requires { RegistryColumnsSound box (columns_of registry) }
-    ensures { result ≡ slot_answer_of (registry_step box (used_registry (columns_of registry)) (leased_slot lease)).answer }
-{
-    let leases = registry.leases;
-    match rows::lease_lookup(leases, registry.active, registry.counter, lease) {
-        Lookup::Stop(r) => SlotAnswer::Refused(r),
-        Lookup::At(i) => {
-            let l = leases[i];
-            let p = l.publication.0 as usize;
-            let e = registry.publications[p];
-            SlotAnswer::Slot(e.slot)
-        }
-    }
-}
-
-pub fn release(mut registry: PublicationRegistry, lease: LeaseId) -> Changed
-    requires { RegistryColumnsSound box (columns_of registry) }
-    ensures { result ≡ changed_of (laid_out_registry box (registry_step box (used_registry (columns_of registry)) (release lease))) }
-{
-    let old = registry.leases;
-    let n = registry.active;
-    match rows::lease_lookup(old, n, registry.counter, lease) {
-        Lookup::Stop(r) => Changed {
-            answer: Plain::Refused(r),
-            registry: registry,
-        },
-        Lookup::At(i) => {
-            let leases = close_up(old, n, i);
-            registry.leases = leases;
-            registry.active = n - 1;
-            Changed {
-                answer: Plain::Done,
-                registry: registry,
+    pub fn release(self, lease: LeaseId) -> Answered<Result<(), Refusal>, PublicationRegistry>
+        ensures { result ≡ answered_of (laid_out_registry box (registry_step box (used_registry (columns_of self.registry)) (release lease))) }
+    {
+        let mut registry = self.registry;
+        let n = registry.active;
+        match rows::lease_lookup(self.leases(), registry.counter, lease) {
+            Err(why) => refused(why, registry),
+            Ok(i) => {
+                registry.leases = close_up(registry.leases, n, i);
+                registry.active = n - 1;
+                Answered {
+                    answer: Ok(()),
+                    table: registry,
+                }
             }
         }
     }
-}
 
-pub fn revoke(mut registry: PublicationRegistry, id: PublicationId) -> Changed
-    requires { RegistryColumnsSound box (columns_of registry) }
-    ensures { result ≡ changed_of (laid_out_registry box (registry_step box (used_registry (columns_of registry)) (revoke id))) }
-{
-    match rows::revoke_verdict(registry.count, id) {
-        Verdict::Stop(r) => Changed {
-            answer: Plain::Refused(r),
-            registry: registry,
-        },
-        Verdict::Pass => {
-            let i = id.0 as usize;
-            registry.publications[i].visible = false;
-            Changed {
-                answer: Plain::Done,
-                registry: registry,
-            }
+    pub fn revoke(self, id: PublicationId) -> Answered<Result<(), Refusal>, PublicationRegistry>
+        ensures { result ≡ answered_of (laid_out_registry box (registry_step box (used_registry (columns_of self.registry)) (revoke id))) }
+    {
+        let mut registry = self.registry;
+        let answer = rows::revoke_verdict(registry.count, id);
+        if let Ok(()) = answer {
+            registry.publications[id.0 as usize].visible = false;
+        }
+        Answered {
+            answer,
+            table: registry,
         }
     }
-}
 
-pub fn reclaim(mut registry: PublicationRegistry, id: PublicationId) -> Reclaimed
-    requires { RegistryColumnsSound box (columns_of registry) }
-    ensures { result ≡ reclaimed_of (laid_out_registry box (registry_step box (used_registry (columns_of registry)) (reclaim id))) }
-{
-    let publications = registry.publications;
-    let leases = registry.leases;
-    match rows::reclaim_verdict(publications, registry.count, leases, registry.active, id) {
-        Verdict::Stop(r) => Reclaimed {
-            answer: SlotAnswer::Refused(r),
-            registry: registry,
-        },
-        Verdict::Pass => {
-            let i = id.0 as usize;
-            let e = registry.publications[i];
-            registry.publications[i].retained = false;
-            Reclaimed {
-                answer: SlotAnswer::Slot(e.slot),
-                registry: registry,
+    pub fn reclaim(self, id: PublicationId) -> Answered<Result<u64, Refusal>, PublicationRegistry>
+        ensures { result ≡ answered_of (laid_out_registry box (registry_step box (used_registry (columns_of self.registry)) (reclaim id))) }
+    {
+        let mut registry = self.registry;
+        match rows::reclaim_verdict(self.publications(), self.leases(), id) {
+            Err(why) => refused(why, registry),
+            Ok(()) => {
+                let i = id.0 as usize;
+                let slot = registry.publications[i].slot;
+                registry.publications[i].retained = false;
+                Answered {
+                    answer: Ok(slot),
+                    table: registry,
+                }
             }
         }
-    }
-}
-
-// A verdict that is the whole answer.
-fn plain(verdict: Verdict) -> Plain
-    ensures { result ≡ plain_verdict verdict }
-{
-    match verdict {
-        Verdict::Stop(r) => Plain::Refused(r),
-        Verdict::Pass => Plain::Done,
     }
 }

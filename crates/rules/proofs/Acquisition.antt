@@ -1,5 +1,6 @@
 -- A lease is given out exactly when acquisition is enabled; and when there is room for several leases more.
 -- Assumes nothing.
+use Rattle.std.specs.Prelude.{Option}
 use Prim.Native.Nat.{ℕ, ◌+◌, ◌≤◌}
 use mathlib.Core.Path.{◌≡◌, refl, sym, ◌∙◌}
 use mathlib.Core.Bool.{Bool, true, false, not, ◌&&◌, true≢false}
@@ -54,7 +55,7 @@ module _ (L : Limits) (t : Registry) (p : PublicationId) where
   enabled_exactly = (enabled_passes, passes_enabled)
 
   -- so it is of the registry's acquire, whoever takes the lease
-  pub acquire_exactly : (k : Consumer) → AcquisitionEnabled L t p ↔ ((registry_step L t (acquire p k)).answer ≡ done (record { 0 = t.counter }))
+  pub acquire_exactly : (k : Option Consumer) → AcquisitionEnabled L t p ↔ ((registry_step L t (acquire p k)).answer ≡ done (record { 0 = t.counter }))
   acquire_exactly k = Iff.trans enabled_exactly (Iff.symm (call_carried_out_exactly L t (acquire p k)))
 
 -- and of the store's

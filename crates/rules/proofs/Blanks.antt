@@ -1,5 +1,6 @@
 -- S6 as a test: a column whose places past those in use are blank is what is in use, filled up.
 -- Assumes nothing.
+use Rattle.std.specs.Prelude.{Option, None, Some}
 use Prim.Native.Nat.{ℕ, ◌+◌, ◌-◌, ◌≤◌}
 use mathlib.Core.Path.{◌≡◌, refl}
 use mathlib.Core.Bool.{Bool, true, false, not, false≢true}
@@ -17,7 +18,6 @@ use Rattle.rules.specs.SoundTest.{nobody, is_blank, is_blank_lease, rest_blank}
 use Rattle.rules.specs.declared.Publication.{Publication}
 use Rattle.rules.specs.declared.Lease.{Lease}
 use Rattle.rules.specs.declared.Consumer.{Consumer}
-use Rattle.rules.specs.declared.Consumer.TheVariants.{Nobody, Episode}
 
 -- a record that passes for blank is the blank one
 
@@ -45,11 +45,11 @@ blank_publication_is e h =
     (not-true _ m.1.1.1.1.0)
     (not-true _ m.1.1.1.1.1.0)
 
-nobody_is : (k : Consumer) → nobody k ≡ true → k ≡ Nobody
-nobody_is Nobody h = refl
-nobody_is (Episode o g) h = absurd (false≢true h)
+nobody_is : (k : Option Consumer) → nobody k ≡ true → k ≡ None
+nobody_is None h = refl
+nobody_is (Some k) h = absurd (false≢true h)
 
-same_lease : {i p : ℕ} {k : Consumer} → i ≡ 0 → p ≡ 0 → k ≡ Nobody
+same_lease : {i p : ℕ} {k : Option Consumer} → i ≡ 0 → p ≡ 0 → k ≡ None
     → ◌≡◌ {A = Lease} (record { id = record { 0 = i }; publication = record { 0 = p }; consumer = k }) blank_lease
 same_lease a b c = cc
 

@@ -1,6 +1,7 @@
 -- What a call gives on any table: on a sound one what the rows say, on a damaged one 9 and the table as it came. So a refusal keeps
 -- the columns, a call keeps a sound table sound and a damaged one damaged, and the empty tables are sound.
 -- Assumes nothing.
+use Rattle.std.specs.Prelude.{Option, ℕ}
 use mathlib.Core.Path.{◌≡◌, sym, ap, subst, ◌∙◌}
 use mathlib.Core.Bool.{false}
 use mathlib.Core.Logic.{◌⊎◌, inl, inr, ⊎_elim}
@@ -17,7 +18,6 @@ use Rattle.rules.specs.Sound.{RegistryColumnsSound, StoreColumnsSound}
 use Rattle.rules.specs.SoundTest.{registry_test, store_test}
 use Rattle.rules.specs.Calls.{laid_out, laid_out_registry, command, query, registry_call}
 use Rattle.rules.specs.declared.Command.{Command}
-use Rattle.rules.specs.declared.Domain.{Domain}
 use Rattle.rules.specs.declared.Refusal.{Refusal}
 use Rattle.rules.specs.declared.Refusal.TheVariants.{BadTable}
 use Rattle.rules.proofs.Columns.{filled_registry_sound, filled_sound}
@@ -136,7 +136,7 @@ module _ (L : Limits) (c : RegistryColumns) where
 
 -- The empty tables, with or without domain, laid out in columns, are sound.
 
-module _ (L : Limits) (d : Domain) where
+module _ (L : Limits) (d : Option ℕ) where
   pub empty_registry_columns_sound : RegistryColumnsSound L (filled_registry L (empty_registry d))
   empty_registry_columns_sound = filled_registry_sound L (empty_registry d) (empty_registry_sound L d)
 

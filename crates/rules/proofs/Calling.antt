@@ -1,5 +1,6 @@
 -- The broker that tests its columns before every command meets the second and the third demand, from any sound table.
 -- Assumes nothing.
+use Rattle.std.specs.Prelude.{Option, ℕ}
 use mathlib.Core.Path.{◌≡◌, refl, ap, ◌∙◌}
 use mathlib.Core.List.{[]}
 use Rattle.rules.specs.Limits.{Limits}
@@ -13,7 +14,6 @@ use Rattle.rules.specs.Demand2.{Demand2, Demand2Table}
 use Rattle.rules.specs.Demand3.{Demand3}
 use Rattle.rules.specs.Past.{past}
 use Rattle.rules.specs.declared.Command.{Command}
-use Rattle.rules.specs.declared.Domain.{Domain}
 use Rattle.rules.proofs.KeepsStore.{step_sound}
 use Rattle.rules.proofs.Columns.{used_filled}
 use Rattle.rules.proofs.Called.{command_answers, command_leaves, command_keeps, empty_columns_sound}
@@ -46,7 +46,7 @@ module _ (L : Limits) (c : StoreColumns) (sound : StoreColumnsSound L c) where
   calling_third = second_gives_third L (used c) (calling L c) sound.in_use calling_second
 
 -- from the empty columns, with or without domain
-pub calling_third_empty : (L : Limits) (d : Domain) → Demand3 [] (calling L (filled L (empty_store d)))
+pub calling_third_empty : (L : Limits) (d : Option ℕ) → Demand3 [] (calling L (filled L (empty_store d)))
 calling_third_empty L d =
     second_gives_third L (empty_store d) (calling L (filled L (empty_store d)))
     (rw is at (empty_columns_sound L d).in_use)

@@ -1,5 +1,6 @@
 -- A registry stays sound when one lease is added, or one left out.
 -- Assumes nothing.
+use Rattle.std.specs.Prelude.{Option}
 use Prim.Native.Nat.{suc, ◌<◌}
 use mathlib.Core.Path.{◌≡◌}
 use mathlib.Core.Bool.{Bool, true, false, cond}
@@ -37,7 +38,7 @@ rising_left out (l ∷ ls) r = go (out l) (every_left out (λ m. l.id.0 < m.id.0
 
 module _ (L : Limits) (t : Registry) (s : RegistrySound L t) where
   -- a lease of a retained publication
-  pub and_lease_keeps : (p : PublicationId) (k : Consumer)
+  pub and_lease_keeps : (p : PublicationId) (k : Option Consumer)
       → length t.leases < L.leases
       → (at t.publications p).retained ≡ true
       → RegistrySound L (and_lease t p k)

@@ -1,5 +1,6 @@
 -- Every call of the registry keeps a sound registry sound, and an empty one is sound.
 -- Assumes nothing.
+use Rattle.std.specs.Prelude.{Option, ℕ}
 use mathlib.Core.Path.{◌≡◌, refl, sym, ◌∙◌}
 use mathlib.Core.Bool.{true≢false, false≢true}
 use native.Mathlib.Omega.{arith}
@@ -17,7 +18,6 @@ use Rattle.rules.specs.RegistryRows.{Call, publish, can_adopt, adopt, check_leas
 use Rattle.rules.specs.Sound.{RegistrySound}
 use Rattle.rules.specs.declared.PublicationId.{PublicationId}
 use Rattle.rules.specs.declared.Consumer.{Consumer}
-use Rattle.rules.specs.declared.Domain.{Domain}
 use Rattle.rules.proofs.Clear.{Clear, clear}
 use Rattle.rules.proofs.Refusals.{call_step_keeps}
 use Rattle.rules.proofs.KeepsPublications.{change_keeps, named_kept, named_unleased, and_publication_keeps}
@@ -56,7 +56,7 @@ module _ (L : Limits) (t : Registry) (s : RegistrySound L t) (p : PublicationId)
       })
       (named_unleased L t s p reclaimed k.1.1.1.0)
 
-  pub acquire_keeps : (k : Consumer) → Clear (acquire_row L t p) → RegistrySound L (and_lease t p k)
+  pub acquire_keeps : (k : Option Consumer) → Clear (acquire_row L t p) → RegistrySound L (and_lease t p k)
   acquire_keeps k c =
       and_lease_keeps L t s p k
       (leb-false L.leases (length t.leases) (or_right (leb L.top t.counter) (leb L.leases (length t.leases)) c.1.1.0))
@@ -89,7 +89,7 @@ registry_keeps L t lease_allocation_count s e = s
 pub registry_step_sound : (L : Limits) (t : Registry) (c : Call) → RegistrySound L t → RegistrySound L (registry_step L t c).table
 registry_step_sound L t c s = call_step_keeps L t c (RegistrySound L) s (registry_keeps L t c s)
 
-pub empty_registry_sound : (L : Limits) (d : Domain) → RegistrySound L (empty_registry d)
+pub empty_registry_sound : (L : Limits) (d : Option ℕ) → RegistrySound L (empty_registry d)
 empty_registry_sound L d =
     record {
       s1 = record { publication_room = omega arith; lease_room = omega arith; given_out = omega arith };

@@ -1,5 +1,6 @@
 -- Every command keeps a sound store sound, and an empty one is sound.
 -- Assumes nothing.
+use Rattle.std.specs.Prelude.{Option}
 use Prim.Native.Nat.{ℕ, suc, ◌<◌}
 use mathlib.Core.Path.{◌≡◌, refl, sym, ap, ◌∙◌}
 use mathlib.Core.Bool.{true, false, cond, true≢false}
@@ -13,7 +14,7 @@ use Rattle.lists.proofs.Bools.{either}
 use Rattle.lists.proofs.Place.{get_d_set, get_or-snoc, set_keeps, snoc_at}
 use Rattle.rules.specs.Limits.{Limits}
 use Rattle.rules.specs.Answers.{pass, verdict}
-use Rattle.rules.specs.Table.{Registry, Store, empty_store, blank_publication, at, publication_of, payload_of, revision_of}
+use Rattle.rules.specs.Table.{Registry, Store, empty_store, blank_publication, at, publication_of, payload_of, revision_of, taken_by}
 use Rattle.rules.specs.Changes.{published, adopted, hidden, reclaimed, change, with_registry}
 use Rattle.rules.specs.Rows.{publish_row, acquire_row, reclaim_row, replace_row, tests, effect, step}
 use Rattle.rules.specs.Sound.{S5, StoreSound}
@@ -21,8 +22,6 @@ use Rattle.rules.specs.declared.PublicationId.{PublicationId}
 use Rattle.rules.specs.declared.Owner.{Owner}
 use Rattle.rules.specs.declared.Port.{Port}
 use Rattle.rules.specs.declared.Publication.{Publication}
-use Rattle.rules.specs.declared.Domain.{Domain}
-use Rattle.rules.specs.declared.Consumer.TheVariants.{Episode}
 use Rattle.rules.specs.declared.Command.{Command}
 use Rattle.rules.specs.declared.Command.TheVariants.{Publish, Adopt, Acquire, Release, Revoke, Replace, Reclaim, Read, Observe, Resolve, Count}
 use Rattle.rules.proofs.Clear.{clear}
@@ -130,7 +129,7 @@ store_keeps L s (Adopt p o g) k e =
     record { registry = adopt_keeps L s.registry k.registry p; s5 = change_s5 L s k p adopted refl refl }
 store_keeps L s (Acquire p o g) k e =
     record {
-      registry = acquire_keeps L s.registry k.registry p (Episode o g) (clear (acquire_row L s.registry p) e);
+      registry = acquire_keeps L s.registry k.registry p (taken_by o g) (clear (acquire_row L s.registry p) e);
       s5 = same_s5 L s k (effect s (Acquire p o g)).registry refl (λ p. refl) (λ p. refl);
     }
 store_keeps L s (Release i) k e =
@@ -157,7 +156,7 @@ store_keeps L s Count k e = k
 pub step_sound : (L : Limits) (s : Store) (c : Command) → StoreSound L s → StoreSound L (step L s c).table
 step_sound L s c k = step_keeps L s c (StoreSound L) k (store_keeps L s c k)
 
-pub empty_sound : (L : Limits) (d : Domain) → StoreSound L (empty_store d)
+pub empty_sound : (L : Limits) (d : Option ℕ) → StoreSound L (empty_store d)
 empty_sound L d =
     record {
       registry = empty_registry_sound L d;

@@ -1,6 +1,7 @@
 -- A broker that leaves the handle in a reclaimed cell answers as the rows do: no answer shows the key that it leaves behind, and only the
 -- whole table does.
 -- Assumes nothing.
+use Rattle.std.specs.Prelude.{None}
 use Prim.Native.Nat.{ℕ, zero, suc, ◌<◌}
 use mathlib.Core.Path.{◌≡◌, refl, sym, ap}
 use mathlib.Core.Bool.{true, false, not, cond}
@@ -23,7 +24,6 @@ use Rattle.rules.specs.Demand2.{Demand2}
 use Rattle.rules.specs.Sound.{StoreSound}
 use Rattle.rules.specs.declared.PublicationId.{PublicationId}
 use Rattle.rules.specs.declared.Publication.{Publication}
-use Rattle.rules.specs.declared.Domain.TheVariants.{Unset}
 use Rattle.rules.specs.declared.Command.{Command}
 use Rattle.rules.specs.declared.Command.TheVariants.{Publish, Adopt, Acquire, Release, Revoke, Replace, Reclaim, Read, Observe, Resolve, Count}
 use Rattle.rules.proofs.Clear.{Clear, clear}
@@ -150,7 +150,7 @@ module _ (L : Limits) (s : Store) (k : StoreSound L (clean s)) where
   alike c pass e = (ap (λ (x : Result c). done x) (same_result c (clear (tests L s c) e)), same_effect c (clear (tests L s c) e))
   alike c (stop r) e = (refl, refl)
 
-pub left_behind_unseen : (L : Limits) → Demand2 L (empty_store Unset) (leaves_the_handle_behind L)
+pub left_behind_unseen : (L : Limits) → Demand2 L (empty_store None) (leaves_the_handle_behind L)
 unfolding step
 left_behind_unseen L =
     simulates L (leaves_the_handle_behind L) clean (λ s. StoreSound L (clean s))
@@ -161,4 +161,4 @@ left_behind_unseen L =
       rw (← same) both.1,
       rw (both.1, same) (step_sound L (clean s) c k),
     ))
-    (empty_sound L Unset)
+    (empty_sound L None)

@@ -26,3 +26,5 @@ pub mod Drain
 pub mod LeftBehind
 pub mod Responses
 pub mod Numbers
+pub mod Build
+pub mod Props

@@ -1,5 +1,6 @@
 -- The third demand from any sound table, with the handles and the leases in it counted as the start.
 -- Assumes nothing.
+use Rattle.std.specs.Prelude as std
 use Prim.Native.Nat.{ℕ, zero, suc, ◌+◌, ◌<◌}
 use mathlib.Core.Path.{◌≡◌, refl, sym, ap, ◌∙◌}
 use mathlib.Core.Bool.{Bool, true, false, cond}
@@ -25,7 +26,6 @@ use Rattle.rules.specs.declared.PublicationId.{PublicationId}
 use Rattle.rules.specs.declared.LeaseId.{LeaseId}
 use Rattle.rules.specs.declared.Publication.{Publication}
 use Rattle.rules.specs.declared.Lease.{Lease}
-use Rattle.rules.specs.declared.Domain.{Domain}
 use Rattle.rules.specs.declared.Command.{Command}
 use Rattle.rules.proofs.KeepsStore.{empty_sound}
 use Rattle.rules.proofs.Along.{gather_append, follow_append}
@@ -186,7 +186,7 @@ pub third_of : (L : Limits) (s : Store) → StoreSound L s → Demand3 (past s) 
 third_of L s k = third_from L s (past s) k (past_linked s)
 
 -- from an empty store, with or without domain
-pub third : (L : Limits) (d : Domain) → Demand3 [] (by_the_rows L (empty_store d))
+pub third : (L : Limits) (d : std.Option ℕ) → Demand3 [] (by_the_rows L (empty_store d))
 third L d = third_of L (empty_store d) (empty_sound L d)
 
 -- a table tells as much as the history that led to it: after a save and a restore, nothing is forgotten

@@ -1,6 +1,6 @@
 -- Broken brokers: the rows, with one thing wrong in each.
 -- Assumes nothing.
-use Rattle.std.specs.Prelude.{ℕ, Bool, true, not, ◌&&◌, List, [], ◌∷◌, eqb, length}
+use Rattle.std.specs.Prelude.{ℕ, Bool, true, not, ◌&&◌, List, [], ◌∷◌, eqb, length, None}
 use Rattle.lists.specs.Search.{some_pass}
 use Rattle.rules.specs.Limits.{Limits}
 use Rattle.rules.specs.Answers.{Test, ◌⇒◌, verdict, carry, refused, done}
@@ -13,7 +13,6 @@ use Rattle.rules.specs.Broker.{Broker}
 use Rattle.rules.specs.declared.PublicationId.{PublicationId}
 use Rattle.rules.specs.declared.LeaseId.{LeaseId}
 use Rattle.rules.specs.declared.Port.{Port}
-use Rattle.rules.specs.declared.Domain.TheVariants.{Unset}
 use Rattle.rules.specs.declared.Refusal.TheVariants.{Unknown, Conflict, Visible, Released, Capacity, Absent}
 use Rattle.rules.specs.declared.Command.{Command}
 use Rattle.rules.specs.declared.Command.TheVariants.{Publish, Adopt, Acquire, Release, Revoke, Replace, Reclaim, Read, Observe, Resolve, Count}
@@ -23,7 +22,7 @@ abbrev pub broker : (Store → Command → List Test) → (Store → (c : Comman
 broker tests result effect =
     record {
       State = Store;
-      first = empty_store Unset;
+      first = empty_store None;
       answer = λ s c. (carry (verdict (tests s c)) s (offered c) (result s c) (effect s c)).answer;
       next = λ s c. (carry (verdict (tests s c)) s (offered c) (result s c) (effect s c)).table;
     }

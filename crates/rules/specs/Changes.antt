@@ -1,6 +1,6 @@
 -- The changes that effects are made of.
 -- Assumes nothing.
-use Rattle.std.specs.Prelude.{ℕ, suc, true, false, List, [], ◌∷◌, ◌++◌, set}
+use Rattle.std.specs.Prelude.{ℕ, suc, true, false, List, [], ◌∷◌, ◌++◌, set, Option}
 use Rattle.lists.specs.Search.{leave_out}
 use Rattle.rules.specs.Table.{Registry, Store, at}
 use Rattle.rules.specs.Conditions.{is_lease}
@@ -43,7 +43,7 @@ module _ (t : Registry) where
   change p f = with_publications (set t.publications p.0 (f (at t.publications p)))
 
   -- one lease more, the last; the counter is its identifier, and goes up by 1
-  abbrev pub and_lease : PublicationId → Consumer → Registry
+  abbrev pub and_lease : PublicationId → Option Consumer → Registry
   and_lease p k =
       record {
         domain = t.domain;

@@ -1,15 +1,14 @@
 -- Raw tables: columns of fixed length, filled up with blanks, beside the numbers of records in use.
 -- Assumes nothing.
-use Rattle.std.specs.Prelude.{ℕ, List, length, take}
+use Rattle.std.specs.Prelude.{ℕ, List, length, take, Option}
 use Rattle.lists.specs.Column.{padded}
 use Rattle.rules.specs.Limits.{Limits}
 use Rattle.rules.specs.Table.{Registry, Store, blank_publication, blank_lease}
 use Rattle.rules.specs.declared.Publication.{Publication}
 use Rattle.rules.specs.declared.Lease.{Lease}
-use Rattle.rules.specs.declared.Domain.{Domain}
 
 pub record RegistryColumns : Type 0 where
-  pub domain : Domain
+  pub domain : Option ℕ
   pub publications : List Publication
   pub count : ℕ
   pub leases : List Lease

@@ -1,11 +1,11 @@
 -- Damaged tables, each beside a sound one that differs as little as can be: every kind of call answers 9 to the one and not to the other.
 -- Assumes nothing.
-use Rattle.std.specs.Prelude.{ℕ, Bool, true, false, not, cond, List, [], ◌∷◌, ◌++◌, T, eqb, length, set, take}
+use Rattle.std.specs.Prelude.{ℕ, Bool, true, false, not, cond, List, [], ◌∷◌, ◌++◌, T, eqb, length, set, take, Option, Some, None}
 use Rattle.lists.specs.Column.{padded}
 use Rattle.lists.specs.Every.{every}
 use Rattle.rules.specs.Limits.{box}
 use Rattle.rules.specs.Answers.{Answer, refused, done, answer_number}
-use Rattle.rules.specs.Table.{Registry, blank_publication, blank_lease}
+use Rattle.rules.specs.Table.{Registry, blank_publication, blank_lease, taken_by}
 use Rattle.rules.specs.Columns.{RegistryColumns, StoreColumns, filled}
 use Rattle.rules.specs.SoundTest.{s1_test, s2_test, s3_test, s4_test, s5_test, s6_registry_test, s6_test, registry_test, store_test}
 use Rattle.rules.specs.Rows.{step}
@@ -16,13 +16,10 @@ use Rattle.rules.specs.Probes.{◌refused_with◌, ◌refused_with◌back◌, ri
 use Rattle.rules.specs.declared.Publication.{Publication}
 use Rattle.rules.specs.declared.Lease.{Lease}
 use Rattle.rules.specs.declared.Consumer.{Consumer}
-use Rattle.rules.specs.declared.Consumer.TheVariants.{Nobody, Episode}
-use Rattle.rules.specs.declared.Domain.{Domain}
-use Rattle.rules.specs.declared.Domain.TheVariants.{Unset, Number}
 
 -- the consumer of the leases
-abbrev pub viewer : Consumer
-viewer = Episode (record { 0 = 5 }) 1
+abbrev pub viewer : Option Consumer
+viewer = taken_by (record { 0 = 5 }) 1
 
 -- columns with one thing changed
 
@@ -75,9 +72,9 @@ good =
     (record {
       registry =
           record {
-            domain = Number 6;
+            domain = Some 6;
             publications = entry 4 0 7 0 true true ∷ entry 4 0 8 1 false true ∷ entry 4 1 9 2 false false ∷ entry 4 0 9 3 true true ∷ [];
-            leases = lent 2 0 viewer ∷ lent 4 1 Nobody ∷ [];
+            leases = lent 2 0 viewer ∷ lent 4 1 None ∷ [];
             counter = 9;
           };
       payloads = 900 ∷ 0 ∷ 0 ∷ 903 ∷ [];
@@ -89,7 +86,7 @@ abbrev pub crowded : StoreColumns
 crowded =
     filled box
     (record {
-      registry = record { domain = Number 6; publications = many 96 (λ n. entry 4 0 n n true true) []; leases = []; counter = 0 };
+      registry = record { domain = Some 6; publications = many 96 (λ n. entry 4 0 n n true true) []; leases = []; counter = 0 };
       payloads = many 96 (λ n. 900) [];
       revisions = many 96 (λ n. 0) [];
     })
@@ -101,7 +98,7 @@ relied_on =
     (record {
       registry =
           record {
-            domain = Number 6;
+            domain = Some 6;
             publications = entry 4 0 7 0 true true ∷ [];
             leases = many 128 (λ n. lent n 0 viewer) [];
             counter = 200;
@@ -140,9 +137,9 @@ abbrev pub no_beside : Answer Bool Bool → Bool
 no_beside (refused r yes_or_no) = not yes_or_no
 no_beside (done yes_or_no) = false
 
-abbrev pub unset : Domain → Bool
-unset Unset = true
-unset (Number n) = false
+abbrev pub unset : Option ℕ → Bool
+unset None = true
+unset (Some n) = false
 
 abbrev pub empty_beside : Answer Registry Registry → Bool
 empty_beside (refused r t) = every (unset t.domain ∷ eqb (length t.publications) 0 ∷ eqb (length t.leases) 0 ∷ eqb t.counter 0 ∷ [])
@@ -214,16 +211,16 @@ damaged_and_sound =
     ∷ registry (3 ∷ []) (publication_is 3 (entry 4 0 9 0 true true) good).registry (publication_is 3 (entry 4 0 9 5 true true) good).registry
     ∷ registry (3 ∷ []) (publication_is 3 (entry 4 0 9 0 false true) good).registry (publication_is 3 (entry 4 0 9 0 false false) good).registry
     -- S4 two leases with one identifier; the next identifier
-    ∷ both (4 ∷ []) (lease_is 1 (lent 2 1 Nobody) good) (lease_is 1 (lent 3 1 Nobody) good)
+    ∷ both (4 ∷ []) (lease_is 1 (lent 2 1 None) good) (lease_is 1 (lent 3 1 None) good)
     -- S4 a lower identifier after a higher one
-    ∷ both (4 ∷ []) (lease_is 1 (lent 1 1 Nobody) good) (lease_is 1 (lent 3 1 Nobody) good)
+    ∷ both (4 ∷ []) (lease_is 1 (lent 1 1 None) good) (lease_is 1 (lent 3 1 None) good)
     -- S4 a lease at the counter; just below it
-    ∷ both (4 ∷ []) (lease_is 1 (lent 9 1 Nobody) good) (lease_is 1 (lent 8 1 Nobody) good)
+    ∷ both (4 ∷ []) (lease_is 1 (lent 9 1 None) good) (lease_is 1 (lent 8 1 None) good)
     -- S4 a lease of a reclaimed publication; of a revoked one
-    ∷ both (4 ∷ []) (lease_is 1 (lent 4 2 Nobody) good) (lease_is 1 (lent 4 1 Nobody) good)
+    ∷ both (4 ∷ []) (lease_is 1 (lent 4 2 None) good) (lease_is 1 (lent 4 1 None) good)
     -- S4 a lease of an unknown publication, next to the last and far away; of the last
-    ∷ both (4 ∷ []) (lease_is 1 (lent 4 4 Nobody) good) (lease_is 1 (lent 4 3 Nobody) good)
-    ∷ both (4 ∷ []) (lease_is 1 (lent 4 96 Nobody) good) (lease_is 1 (lent 4 3 Nobody) good)
+    ∷ both (4 ∷ []) (lease_is 1 (lent 4 4 None) good) (lease_is 1 (lent 4 3 None) good)
+    ∷ both (4 ∷ []) (lease_is 1 (lent 4 96 None) good) (lease_is 1 (lent 4 3 None) good)
     -- S5 the slot of a retained publication, and of a reclaimed one, is not its identifier
     ∷ store (5 ∷ []) (publication_is 3 (entry 4 0 9 4 true true) good) good
     ∷ store (5 ∷ []) (publication_is 2 (entry 4 1 9 5 false false) good) good
@@ -237,15 +234,15 @@ damaged_and_sound =
     ∷ both (6 ∷ []) (publication_is 4 (entry 0 0 0 0 true false) good) good
     ∷ both (6 ∷ []) (publication_is 4 (entry 0 0 0 0 false true) good) good
     -- S6 an unused lease with an identifier, a publication, a consumer
-    ∷ both (6 ∷ []) (lease_is 2 (lent 1 0 Nobody) good) good
-    ∷ both (6 ∷ []) (lease_is 2 (lent 0 1 Nobody) good) good
-    ∷ both (6 ∷ []) (lease_is 2 (lent 0 0 (Episode (record { 0 = 0 }) 0)) good) good
+    ∷ both (6 ∷ []) (lease_is 2 (lent 1 0 None) good) good
+    ∷ both (6 ∷ []) (lease_is 2 (lent 0 1 None) good) good
+    ∷ both (6 ∷ []) (lease_is 2 (lent 0 0 (taken_by (record { 0 = 0 }) 0)) good) good
     -- S6 an unused payload, an unused revision
     ∷ store (6 ∷ []) (payload_is 4 1 good) good
     ∷ store (6 ∷ []) (revision_is 4 1 good) good
     -- S6 the last place of each column
     ∷ both (6 ∷ []) (publication_is 95 (entry 1 0 0 0 false false) good) good
-    ∷ both (6 ∷ []) (lease_is 127 (lent 1 0 Nobody) good) good
+    ∷ both (6 ∷ []) (lease_is 127 (lent 1 0 None) good) good
     ∷ store (6 ∷ []) (payload_is 95 1 good) good
     ∷ store (6 ∷ []) (revision_is 95 1 good) good
     -- S6 a column one short, or one too long

@@ -1,17 +1,15 @@
 -- What stands next to the bench examples: which test refuses where two hold, the numbers of each row, the names, and a whole table.
 -- Assumes nothing.
-use Rattle.std.specs.Prelude.{ℕ, ◌≡◌, refl, Bool, true, false, List, [], ◌∷◌, T}
+use Rattle.std.specs.Prelude.{ℕ, ◌≡◌, refl, Bool, true, false, List, [], ◌∷◌, T, Some}
 use Rattle.lists.specs.Every.{every}
 use Rattle.lists.specs.Letters.{letters}
 use Rattle.rules.specs.Limits.{Limits, box}
 use Rattle.rules.specs.Refusals.{refusal_number, name_of}
 use Rattle.rules.specs.Answers.{Test, ◌⇒◌}
-use Rattle.rules.specs.Table.{Store, empty_store}
+use Rattle.rules.specs.Table.{Store, empty_store, taken_by}
 use Rattle.rules.specs.Rows.{tests, step}
 use Rattle.rules.specs.Broker.{run}
 use Rattle.rules.specs.Demand2.{by_the_rows}
-use Rattle.rules.specs.declared.Consumer.TheVariants.{Episode}
-use Rattle.rules.specs.declared.Domain.TheVariants.{Number}
 use Rattle.rules.specs.declared.Command.{Command}
 use Rattle.rules.specs.Probes.{Case, ◌gives◌, ◌refused_with◌, ◌refused_with◌back◌, same_numbers, all_right, publish, adopt, acquire, release, revoke, replace, reclaim, read, observe, resolve, count, entry, lent, empty, given}
 
@@ -181,15 +179,15 @@ table_left =
     record {
       registry =
           record {
-            domain = Number 3;
+            domain = Some 3;
             publications = entry 4 0 7 0 false false ∷ entry 6 0 8 1 true true ∷ entry 7 1 9 2 true true ∷ [];
-            leases = lent 2 1 (Episode (record { 0 = 6 }) 2) ∷ lent 3 2 (Episode (record { 0 = 5 }) 1) ∷ [];
+            leases = lent 2 1 (taken_by (record { 0 = 6 }) 2) ∷ lent 3 2 (taken_by (record { 0 = 5 }) 1) ∷ [];
             counter = 4;
           };
       payloads = 0 ∷ 905 ∷ 902 ∷ [];
       revisions = 1 ∷ 2 ∷ 0 ∷ [];
     }
 
-pub commands_leave : run (by_the_rows box (empty_store (Number 3))) (empty_store (Number 3)) commands ≡ table_left
+pub commands_leave : run (by_the_rows box (empty_store (Some 3))) (empty_store (Some 3)) commands ≡ table_left
 unfolding step run
 commands_leave = refl

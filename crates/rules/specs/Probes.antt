@@ -1,6 +1,6 @@
 -- How an example is written down: commands with plain numbers, and what each must answer.
 -- Assumes nothing.
-use Rattle.std.specs.Prelude.{ℕ, zero, suc, Bool, true, false, ◌&&◌, List, [], ◌∷◌, eqb}
+use Rattle.std.specs.Prelude.{ℕ, zero, suc, Bool, true, false, ◌&&◌, List, [], ◌∷◌, eqb, Option, None}
 use Rattle.lists.specs.Every.{every}
 use Rattle.rules.specs.Limits.{box}
 use Rattle.rules.specs.Answers.{refused, done, answer_number}
@@ -10,7 +10,6 @@ use Rattle.rules.specs.Rows.{step}
 use Rattle.rules.specs.declared.Publication.{Publication}
 use Rattle.rules.specs.declared.Lease.{Lease}
 use Rattle.rules.specs.declared.Consumer.{Consumer}
-use Rattle.rules.specs.declared.Domain.TheVariants.{Unset}
 use Rattle.rules.specs.declared.Command.{Command}
 use Rattle.rules.specs.declared.Command.TheVariants.{Publish, Adopt, Acquire, Release, Revoke, Replace, Reclaim, Read, Observe, Resolve, Count}
 
@@ -82,7 +81,7 @@ abbrev pub entry : ℕ → ℕ → ℕ → ℕ → Bool → Bool → Publication
 entry owner generation port slot visible retained =
     record { owner = record { 0 = owner }; generation = generation; port = record { 0 = port }; slot = slot; visible = visible; retained = retained }
 
-abbrev pub lent : ℕ → ℕ → Consumer → Lease
+abbrev pub lent : ℕ → ℕ → Option Consumer → Lease
 lent id publication consumer = record { id = record { 0 = id }; publication = record { 0 = publication }; consumer = consumer }
 
 -- when an answer is right
@@ -136,7 +135,7 @@ many (suc n) f xs = many n f (f n ∷ xs)
 
 -- an empty store
 abbrev pub empty : Store
-empty = empty_store Unset
+empty = empty_store None
 
 -- a store with one visible publication, by owner 4 in generation 0 on port 7 with the handle 900, at a revision, and a counter
 abbrev pub given : ℕ → ℕ → Store
@@ -144,7 +143,7 @@ given revision counter =
     record {
       registry =
           record {
-            domain = Unset;
+            domain = None;
             publications = entry 4 0 7 0 true true ∷ [];
             leases = [];
             counter = counter;

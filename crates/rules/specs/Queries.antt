@@ -1,7 +1,7 @@
 -- The store's queries that the trace does not write: read without the revision, observe without it, is a handle present, a copy of
 -- the registry.
 -- Assumes nothing.
-use Rattle.std.specs.Prelude.{ℕ, Bool, false, ◌&&◌, List, [], eqb, length}
+use Rattle.std.specs.Prelude.{ℕ, Bool, false, ◌&&◌, List, [], eqb, length, None}
 use Rattle.lists.specs.Every.{some_below}
 use Rattle.rules.specs.Limits.{Limits}
 use Rattle.rules.specs.Answers.{Answer, Test, verdict, settle}
@@ -10,7 +10,6 @@ use Rattle.rules.specs.Rows.{lease_row, observe_row, read_of}
 use Rattle.rules.specs.declared.PublicationId.{PublicationId}
 use Rattle.rules.specs.declared.LeaseId.{LeaseId}
 use Rattle.rules.specs.declared.Leased.{Leased}
-use Rattle.rules.specs.declared.Domain.TheVariants.{Unset}
 
 pub data Query : Type 0 where
   leased_value : (lease : LeaseId) → Query
@@ -36,7 +35,7 @@ abbrev pub beside : (q : Query) → Beside q
 beside (leased_value i) = tt
 beside (value p) = tt
 beside (contains_handle h) = false
-beside registry_copy = empty_registry Unset
+beside registry_copy = empty_registry None
 
 abbrev pub ReplyTo : Query → Type 0
 ReplyTo q = Answer (QueryResult q) (Beside q)

@@ -1,6 +1,6 @@
 -- The registry's own calls: the same rows without handle and revision.
 -- Assumes nothing.
-use Rattle.std.specs.Prelude.{ℕ, ◌+◌, not, ◌&&◌, ◌||◌, List, [], ◌∷◌, leb, length}
+use Rattle.std.specs.Prelude.{ℕ, ◌+◌, not, ◌&&◌, ◌||◌, List, [], ◌∷◌, leb, length, Option}
 use Rattle.rules.specs.Limits.{Limits}
 use Rattle.rules.specs.Answers.{Answer, Test, Outcome, ◌⇒◌, verdict, carry}
 use Rattle.rules.specs.Table.{Registry, at}
@@ -14,7 +14,6 @@ use Rattle.rules.specs.declared.Port.{Port}
 use Rattle.rules.specs.declared.Publication.{Publication}
 use Rattle.rules.specs.declared.Consumer.{Consumer}
 use Rattle.rules.specs.declared.Lease.{Lease}
-use Rattle.rules.specs.declared.Domain.{Domain}
 use Rattle.rules.specs.declared.Refusal.TheVariants.{Conflict, Capacity, Absent}
 
 pub data Call : Type 0 where
@@ -23,8 +22,8 @@ pub data Call : Type 0 where
   can_adopt : (id : PublicationId) (owner : Owner) (generation : ℕ) → Call
   adopt : (id : PublicationId) (owner : Owner) (generation : ℕ) → Call
   check_lease_capacity : (count : ℕ) → Call
-  -- acquire records Nobody, acquire_for an Episode
-  acquire : (id : PublicationId) (consumer : Consumer) → Call
+  -- acquire records no consumer, acquire_for an owner in a generation
+  acquire : (id : PublicationId) (consumer : Option Consumer) → Call
   leased_slot : (lease : LeaseId) → Call
   release : (lease : LeaseId) → Call
   revoke : (id : PublicationId) → Call
@@ -51,7 +50,7 @@ CallResult (reclaim p) = ℕ
 CallResult (resolve q) = PublicationId
 CallResult (entry p) = Publication
 CallResult (lease i) = Lease
-CallResult domain = Domain
+CallResult domain = Option ℕ
 CallResult publication_records = ℕ
 CallResult lease_record_count = ℕ
 CallResult lease_allocation_count = ℕ

@@ -5,14 +5,13 @@ use Rattle.lists.specs.Search.{how_many}
 use Rattle.rules.specs.Limits.{Limits}
 use Rattle.rules.specs.Answers.{Test, Outcome, ◌⇒◌, verdict, carry}
 use Rattle.rules.specs.Commands.{Result, AnswerTo, offered}
-use Rattle.rules.specs.Table.{Registry, Store, at, publication_of, payload_of, revision_of}
+use Rattle.rules.specs.Table.{Registry, Store, at, publication_of, payload_of, revision_of, taken_by}
 use Rattle.rules.specs.Conditions.{unknown, owned_by, full, port_held, leased, no_lease_left, never_lent, active, lease_of, resolved}
 use Rattle.rules.specs.Changes.{published, adopted, hidden, reclaimed, and_publication, change, and_lease, without_lease, with_registry, with_payload, with_revision}
 use Rattle.rules.specs.declared.PublicationId.{PublicationId}
 use Rattle.rules.specs.declared.LeaseId.{LeaseId}
 use Rattle.rules.specs.declared.Owner.{Owner}
 use Rattle.rules.specs.declared.Port.{Port}
-use Rattle.rules.specs.declared.Consumer.TheVariants.{Episode}
 use Rattle.rules.specs.declared.Refusal.TheVariants.{Unknown, Revoked, Conflict, Relied, Visible, Released, Capacity, InvalidState, Absent}
 use Rattle.rules.specs.declared.Command.{Command}
 use Rattle.rules.specs.declared.Command.TheVariants.{Publish, Adopt, Acquire, Release, Revoke, Replace, Reclaim, Read, Observe, Resolve, Count}
@@ -121,7 +120,7 @@ module _ (s : Store) where
         revisions = s.revisions ++ (0 ∷ []);
       }
   effect (Adopt p o g) = with_registry s (change s.registry p adopted)
-  effect (Acquire p o g) = with_registry s (and_lease s.registry p (Episode o g))
+  effect (Acquire p o g) = with_registry s (and_lease s.registry p (taken_by o g))
   effect (Release i) = with_registry s (without_lease s.registry i)
   effect (Revoke p) = with_registry s (change s.registry p hidden)
   effect (Replace p o g v) = with_payload (with_revision s p (suc (revision_of s p))) p v

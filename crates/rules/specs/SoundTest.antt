@@ -1,6 +1,6 @@
 -- Soundness of a raw table as a test that computes, clause by clause.
 -- Assumes nothing.
-use Rattle.std.specs.Prelude.{ℕ, zero, suc, ◌+◌, ◌-◌, Bool, true, false, not, ◌&&◌, ◌||◌, List, [], ◌∷◌, leb, ltb, eqb, length, get_or}
+use Rattle.std.specs.Prelude.{ℕ, zero, suc, ◌+◌, ◌-◌, Bool, true, false, not, ◌&&◌, ◌||◌, List, [], ◌∷◌, leb, ltb, eqb, length, get_or, Option, None, Some}
 use Rattle.lists.specs.Every.{every, each_below, implies}
 use Rattle.rules.specs.Limits.{Limits}
 use Rattle.rules.specs.Table.{blank_publication, blank_lease, at}
@@ -8,13 +8,12 @@ use Rattle.rules.specs.Columns.{RegistryColumns, StoreColumns}
 use Rattle.rules.specs.declared.Publication.{Publication}
 use Rattle.rules.specs.declared.Lease.{Lease}
 use Rattle.rules.specs.declared.Consumer.{Consumer}
-use Rattle.rules.specs.declared.Consumer.TheVariants.{Nobody, Episode}
 
 -- S6: a record is blank
 
-abbrev pub nobody : Consumer → Bool
-nobody Nobody = true
-nobody (Episode o g) = false
+abbrev pub nobody : Option Consumer → Bool
+nobody None = true
+nobody (Some k) = false
 
 abbrev pub is_blank : Publication → Bool
 is_blank e =

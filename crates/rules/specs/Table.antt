@@ -1,14 +1,14 @@
 -- The tables, as lists of the records in use: a registry, and a store, which has a payload and a revision for each publication.
 -- Assumes nothing.
-use Rattle.std.specs.Prelude.{ℕ, false, List, [], get_or}
+use Rattle.std.specs.Prelude.{ℕ, false, List, [], get_or, Option, Some, None}
 use Rattle.rules.specs.declared.Publication.{Publication}
 use Rattle.rules.specs.declared.PublicationId.{PublicationId}
 use Rattle.rules.specs.declared.Lease.{Lease}
-use Rattle.rules.specs.declared.Consumer.TheVariants.{Nobody}
-use Rattle.rules.specs.declared.Domain.{Domain}
+use Rattle.rules.specs.declared.Consumer.{Consumer}
+use Rattle.rules.specs.declared.Owner.{Owner}
 
 pub record Registry : Type 0 where
-  pub domain : Domain
+  pub domain : Option ℕ
   -- by identifier, from 0 on; reclaimed ones stay
   pub publications : List Publication
   -- the active ones, in the order in which they were given out
@@ -28,12 +28,16 @@ blank_publication =
     record { owner = record { 0 = 0 }; generation = 0; port = record { 0 = 0 }; slot = 0; visible = false; retained = false }
 
 abbrev pub blank_lease : Lease
-blank_lease = record { id = record { 0 = 0 }; publication = record { 0 = 0 }; consumer = Nobody }
+blank_lease = record { id = record { 0 = 0 }; publication = record { 0 = 0 }; consumer = None }
 
-abbrev pub empty_registry : Domain → Registry
+-- a lease taken by an owner in a generation
+abbrev pub taken_by : Owner → ℕ → Option Consumer
+taken_by o g = Some (record { owner = o; generation = g })
+
+abbrev pub empty_registry : Option ℕ → Registry
 empty_registry d = record { domain = d; publications = []; leases = []; counter = 0 }
 
-abbrev pub empty_store : Domain → Store
+abbrev pub empty_store : Option ℕ → Store
 empty_store d = record { registry = empty_registry d; payloads = []; revisions = [] }
 
 -- the record, the payload and the revision at an identifier; past the end they are blank

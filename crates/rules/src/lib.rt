@@ -1,23 +1,28 @@
 // The types of the lease broker. What each command does to a table, and what is proved of that, stands in specs/ and proofs/:
-// this crate has no code to run, and every crate above it cites its definitions.
+// every crate above this one cites its definitions.
 //
 // Numbers of different kinds are different types, so that a lease can't be passed for a publication.
+//
+// Nothing that an entry point reaches calls a function of the library: docs/DESIGN-PASS.md says why, and what stands in its place.
 #![tactic(auto)]
 
-#[derive(Clone, Copy)]
+ghost use Rattle.std.specs.Prelude.{◌≡◌};
+ghost use Rattle.rules.specs.Refusals.{refusal_number};
+
+#[derive(Clone, Copy, PartialEq, Eq)]
 pub struct PublicationId(pub u64);
 
-#[derive(Clone, Copy)]
+#[derive(Clone, Copy, PartialEq, Eq)]
 pub struct LeaseId(pub u64);
 
-#[derive(Clone, Copy)]
+#[derive(Clone, Copy, PartialEq, Eq)]
 pub struct Owner(pub u64);
 
-#[derive(Clone, Copy)]
+#[derive(Clone, Copy, PartialEq, Eq)]
 pub struct Port(pub u32);
 
 // One handle that was published: whose it is, where it is looked up, and whether it still is (visible) and still stands (retained).
-#[derive(Clone, Copy)]
+#[derive(Clone, Copy, PartialEq, Eq)]
 pub struct Publication {
     pub owner: Owner,
     pub generation: u64,
@@ -27,45 +32,61 @@ pub struct Publication {
     pub retained: bool,
 }
 
-// Who took a lease: nobody by name, or an owner in a generation.
-#[derive(Clone, Copy)]
-pub enum Consumer {
-    Nobody,
-    Episode(Owner, u64),
+// Who took a lease: an owner in a generation.
+#[derive(Clone, Copy, PartialEq, Eq)]
+pub struct Consumer {
+    pub owner: Owner,
+    pub generation: u64,
 }
 
-// An active lease. A released one has no record.
-#[derive(Clone, Copy)]
+// An active lease, taken by a consumer or by nobody by name. A released one has no record.
+#[derive(Clone, Copy, PartialEq, Eq)]
 pub struct Lease {
     pub id: LeaseId,
     pub publication: PublicationId,
-    pub consumer: Consumer,
+    pub consumer: Option<Consumer>,
 }
 
-// The domain that a table was made for, recorded only.
-#[derive(Clone, Copy)]
-pub enum Domain {
-    Unset,
-    Number(u64),
-}
-
-// Why a call is refused; specs/Refusals.antt has the numbers.
-#[derive(Clone, Copy)]
+// Why a call is refused, with its number.
+#[derive(Clone, Copy, PartialEq, Eq)]
 pub enum Refusal {
-    Unknown,
-    Revoked,
-    Conflict,
-    Relied,
-    Visible,
-    Released,
-    Capacity,
-    InvalidState,
-    BadTable,
-    Absent,
+    Unknown = 1,
+    Revoked = 2,
+    Conflict = 3,
+    Relied = 4,
+    Visible = 5,
+    Released = 6,
+    Capacity = 7,
+    InvalidState = 8,
+    BadTable = 9,
+    Absent = 10,
+}
+
+// A refusal's number: specs/Refusals.antt has them beside the names.
+impl From<Refusal> for u64 {
+    fn from(refusal: Refusal) -> u64
+        ensures { result ≡ refusal_number refusal }
+    {
+        refusal as u64
+    }
+}
+
+// Why a call that offered a handle is refused, and the handle back.
+#[derive(Clone, Copy, PartialEq, Eq)]
+pub struct Rejected {
+    pub why: Refusal,
+    pub handle: u64,
+}
+
+// What a call answers, beside the table that it leaves.
+#[derive(Clone, Copy)]
+pub struct Answered<A, T> {
+    pub answer: A,
+    pub table: T,
 }
 
 // The store's commands, as a trace writes them.
-#[derive(Clone, Copy)]
+#[derive(Clone, Copy, PartialEq, Eq)]
 pub enum Command {
     Publish {
         owner: Owner,
@@ -111,7 +132,7 @@ pub enum Command {
 }
 
 // What is read through a lease.
-#[derive(Clone, Copy)]
+#[derive(Clone, Copy, PartialEq, Eq)]
 pub struct Reading {
     pub id: PublicationId,
     pub revision: u64,
@@ -119,21 +140,21 @@ pub struct Reading {
 }
 
 // What is observed of a publication.
-#[derive(Clone, Copy)]
+#[derive(Clone, Copy, PartialEq, Eq)]
 pub struct Observation {
     pub revision: u64,
     pub handle: u64,
 }
 
 // A publication and its handle: what is read through a lease, without the revision.
-#[derive(Clone, Copy)]
+#[derive(Clone, Copy, PartialEq, Eq)]
 pub struct Leased {
     pub id: PublicationId,
     pub handle: u64,
 }
 
 // What any command is answered, in one type for all of them.
-#[derive(Clone, Copy)]
+#[derive(Clone, Copy, PartialEq, Eq)]
 pub enum Response {
     // Refused; and refused with the offered handle back.
     Refused(Refusal),

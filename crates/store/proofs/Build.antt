@@ -7,7 +7,8 @@ use prog.Wired.{Code}
 use Rattle.store.proofs.TheLink as link
 use Rattle.store.proofs.PublicationStore.new.Symbol as PublicationStore-new
 use Rattle.store.proofs.inner.any.apply.Symbol as inner-any-apply
-use Rattle.store.proofs.inner.is_sound.Symbol as inner-is_sound
+use Rattle.store.proofs.inner.Sound.empty.Symbol as inner-Sound-empty
+use Rattle.store.proofs.inner.Sound.tested.Symbol as inner-Sound-tested
 use Rattle.store.proofs.PublicationStore.for_domain.Symbol as PublicationStore-for_domain
 use Rattle.store.proofs.PublicationStore.registry.Symbol as PublicationStore-registry
 use Rattle.store.proofs.PublicationStore.value.Symbol as PublicationStore-value
@@ -47,8 +48,11 @@ PublicationStore-new-stands = link.linked-store::PublicationStore::new
 pub inner-any-apply-stands : Stands inner-any-apply.code
 inner-any-apply-stands = link.linked-store::inner::any::apply
 
-pub inner-is_sound-stands : Stands inner-is_sound.code
-inner-is_sound-stands = link.linked-store::inner::is_sound
+pub inner-Sound-empty-stands : Stands inner-Sound-empty.code
+inner-Sound-empty-stands = link.linked-store::inner::Sound::empty
+
+pub inner-Sound-tested-stands : Stands inner-Sound-tested.code
+inner-Sound-tested-stands = link.linked-store::inner::Sound::tested
 
 pub PublicationStore-for_domain-stands : Stands PublicationStore-for_domain.code
 PublicationStore-for_domain-stands = link.linked-store::PublicationStore::for_domain

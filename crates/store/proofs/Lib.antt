@@ -1,9 +1,9 @@
 pub mod Steps
 pub mod Effects
 pub mod Guard
+pub mod Sharing
 pub mod Publishing
 pub mod Changing
-pub mod Leasing
 pub mod Reading
 pub mod Counting
 pub mod Applying

@@ -1,5 +1,6 @@
 -- One command on a sound store, by what its tests come to.
 -- Assumes nothing.
+use Rattle.std.specs.Prelude.{Result, Ok, Err}
 use mathlib.Core.Path.{◌≡◌, ap}
 use Rattle.rules.specs.Limits.{Limits}
 use Rattle.rules.specs.Answers.{refused, done, stop, pass, verdict}
@@ -11,8 +12,6 @@ use Rattle.rules.specs.Calls.{laid_out}
 use Rattle.rules.specs.declared.Command.{Command}
 use Rattle.rules.specs.declared.Refusal.{Refusal}
 use Rattle.columns.specs.Verdicts.{verdict_of}
-use Rattle.columns.specs.declared.Verdict.{Verdict}
-use Rattle.columns.specs.declared.Verdict.TheVariants.{Stop, Pass}
 use Rattle.columns.proofs.Verdicts.{told_stop, told_pass}
 
 module _ (L : Limits) (c : StoreColumns) (k : Command) where
@@ -23,16 +22,17 @@ module _ (L : Limits) (c : StoreColumns) (k : Command) where
   stopped h {r} e = rw e (ap (λ (t : StoreColumns). record { answer = refused r (offered k); table = t }) h.s6)
 
   -- any other is carried out
-  pub carried : verdict (tests L (used c) k) ≡ pass
-      → laid_out L (step L (used c) k) ≡ record { answer = done (result (used c) k); table = filled L (effect (used c) k) }
+  pub carried : verdict (tests L (used c) k) ≡ pass → {t : StoreColumns} → filled L (effect (used c) k) ≡ t
+      → laid_out L (step L (used c) k) ≡ record { answer = done (result (used c) k); table = t }
   unfolding step
-  carried e = rw e
+  carried e g = rw (e, g)
 
   -- the same from the verdict that the code has in hand
-  module _ {w : Verdict} (e : w ≡ verdict_of (verdict (tests L (used c) k))) where
-    pub passes : w ≡ Pass → verdict (tests L (used c) k) ≡ pass
-    passes t = told_pass (verdict (tests L (used c) k)) e t
+  module _ {w : Result (Unit {0}) Refusal} (e : w ≡ verdict_of (verdict (tests L (used c) k))) where
+    pub carried_by : w ≡ Ok tt → {t : StoreColumns} → filled L (effect (used c) k) ≡ t
+        → laid_out L (step L (used c) k) ≡ record { answer = done (result (used c) k); table = t }
+    carried_by t g = carried (told_pass (verdict (tests L (used c) k)) e t) g
 
-    pub stopped_by : StoreColumnsSound L c → {r : Refusal} → w ≡ Stop r
+    pub stopped_by : StoreColumnsSound L c → {r : Refusal} → w ≡ Err r
         → laid_out L (step L (used c) k) ≡ record { answer = refused r (offered k); table = c }
     stopped_by h t = stopped h (told_stop (verdict (tests L (used c) k)) e t)

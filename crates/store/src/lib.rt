@@ -2,10 +2,12 @@
 //
 // Every call tests the store first: one that isn't sound is answered BadTable, and a command gives it back exactly as it came.
 // Any other refusal gives the store back unchanged as well, and publish and replace give the offered handle back.
+// The test stands at the head of each call: of a closure with the rest of the call in it the check finds no contract.
+//
+// Nothing that an entry point reaches calls a function of the library: docs/DESIGN-PASS.md says why, and what stands in its place.
 #![tactic(auto)]
 
-ghost use Rattle.std.specs.Prelude.{◌≡◌};
-ghost use Rattle.rules.specs.declared.Domain.TheVariants.{Unset, Number};
+ghost use Rattle.std.specs.Prelude.{◌≡◌, Some, None};
 ghost use Rattle.rules.specs.declared.Command.TheVariants.{Publish, Adopt, Acquire, Release, Revoke, Replace, Reclaim, Read, Observe, Resolve, Count};
 ghost use Rattle.rules.specs.declared.Refusal.TheVariants.{BadTable};
 ghost use Rattle.rules.specs.Limits.{box};
@@ -16,120 +18,34 @@ ghost use Rattle.rules.specs.Queries.{leased_value, value, contains_handle, regi
 ghost use Rattle.rules.specs.Calls.{command, query};
 ghost use Rattle.rules.specs.Responses.{refusal_of};
 ghost use Rattle.rules.specs.ValueCell.{new_cell, get_cell, replace_cell};
-ghost use Rattle.registry.specs.Answers.{id_answer_of, count_answer_of};
+ghost use Rattle.registry.specs.Answers.{result_of};
 ghost use Rattle.store.specs.Columns.{columns_of, store_of};
-ghost use Rattle.store.specs.Answers.{handle_answer_of, read_answer_of, observe_answer_of, leased_answer_of, contained_of, registry_copy_of, published_of, changed_of, acquired_of, replaced_of, reclaimed_of, applied_of};
+ghost use Rattle.store.specs.Answers.{contained_of, registry_copy_of, answered_of, returned_of, applied_of};
 ghost use Rattle.store.specs.ValueCell.{cell_of, value_cell_of, exchanged_of};
 
-use registry::{CountAnswer, IdAnswer, LeaseIdAnswer, Plain, PublicationRegistry};
+use inner::Sound;
+use registry::PublicationRegistry;
+use registry::inner::refused;
 use rules::{
-    Command, Domain, Lease, LeaseId, Leased, Observation, Owner, Port, Publication, PublicationId,
-    Reading, Refusal, Response,
+    Answered, Command, LeaseId, Leased, Observation, Owner, Port, PublicationId, Reading, Refusal,
+    Rejected, Response,
 };
 
 pub mod inner;
 
-// Records and cells past the counts are blank in a sound store.
+// Records and cells past the counts are blank in a sound store. Payloads and revisions are columns beside the records, as docs/DECISIONS.md fixes them.
 #[derive(Clone, Copy)]
 pub struct PublicationStore {
-    pub domain: Domain,
-    pub publications: [Publication; 96],
-    pub count: usize,
-    pub leases: [Lease; 128],
-    pub active: usize,
-    pub counter: u64,
+    pub registry: PublicationRegistry,
     pub payloads: [u64; 96],
     pub revisions: [u64; 96],
 }
 
-// What a call answers: why it is refused, or what it gives. An offered handle comes back inside the refusal.
-
-#[derive(Clone, Copy)]
-pub enum PublishAnswer {
-    Refused(Refusal, u64),
-    Id(PublicationId),
-}
-
-#[derive(Clone, Copy)]
-pub enum ReplaceAnswer {
-    Refused(Refusal, u64),
-    Earlier(u64),
-}
-
-#[derive(Clone, Copy)]
-pub enum HandleAnswer {
-    Refused(Refusal),
-    Handle(u64),
-}
-
-#[derive(Clone, Copy)]
-pub enum ReadAnswer {
-    Refused(Refusal),
-    Read(Reading),
-}
-
-#[derive(Clone, Copy)]
-pub enum ObserveAnswer {
-    Refused(Refusal),
-    Observed(Observation),
-}
-
-#[derive(Clone, Copy)]
-pub enum LeasedAnswer {
-    Refused(Refusal),
-    Value(Leased),
-}
-
-// An answer beside the store that the call leaves.
-
-#[derive(Clone, Copy)]
-pub struct Published {
-    pub answer: PublishAnswer,
-    pub store: PublicationStore,
-}
-
-#[derive(Clone, Copy)]
-pub struct Changed {
-    pub answer: Plain,
-    pub store: PublicationStore,
-}
-
-#[derive(Clone, Copy)]
-pub struct Acquired {
-    pub answer: LeaseIdAnswer,
-    pub store: PublicationStore,
-}
-
-#[derive(Clone, Copy)]
-pub struct Replaced {
-    pub answer: ReplaceAnswer,
-    pub store: PublicationStore,
-}
-
-#[derive(Clone, Copy)]
-pub struct Reclaimed {
-    pub answer: HandleAnswer,
-    pub store: PublicationStore,
-}
-
-#[derive(Clone, Copy)]
-pub struct Applied {
-    pub response: Response,
-    pub store: PublicationStore,
-}
-
-// An answer beside a yes or no, which is no where the call is refused.
+// An answer beside a yes or no, which is no where the call is refused: a `Result` of a yes or no would not say that.
 #[derive(Clone, Copy)]
 pub struct Contained {
-    pub answer: Plain,
+    pub answer: Result<(), Refusal>,
     pub present: bool,
-}
-
-// An answer beside a copy of the registry, which is the empty one without domain where the call is refused.
-#[derive(Clone, Copy)]
-pub struct RegistryCopy {
-    pub answer: Plain,
-    pub registry: PublicationRegistry,
 }
 
 // One handle by itself.
@@ -138,248 +54,231 @@ pub struct ValueCell {
     pub value: u64,
 }
 
-// The earlier handle beside the cell.
+// The earlier handle beside the cell: the names say which handle it is, where `Answered` would call it an answer.
 #[derive(Clone, Copy)]
 pub struct Exchanged {
     pub earlier: u64,
     pub cell: ValueCell,
 }
 
+#[tactic(auto, using(crate::proofs::Guard::guarded))]
 impl PublicationStore {
     // The empty store without domain.
     pub fn new() -> PublicationStore
-        ensures { result ≡ store_of (filled box (empty_store Unset)) }
+        ensures { result ≡ store_of (filled box (empty_store None)) }
     {
-        inner::empty(Domain::Unset)
+        Sound::empty(None).store
     }
 
     // The empty store of a domain.
     pub fn for_domain(number: u64) -> PublicationStore
-        ensures { result ≡ store_of (filled box (empty_store (Number number))) }
+        ensures { result ≡ store_of (filled box (empty_store (Some number))) }
     {
-        inner::empty(Domain::Number(number))
+        Sound::empty(Some(number)).store
     }
 
     // A copy of the registry: the store without handles and revisions.
-    pub fn registry(self) -> RegistryCopy
+    pub fn registry(self) -> Answered<Result<(), Refusal>, PublicationRegistry>
         ensures { result ≡ registry_copy_of (query box (columns_of self) registry_copy) }
     {
-        if inner::is_sound(self) {
-            let domain = self.domain;
-            let publications = self.publications;
-            let leases = self.leases;
-            let registry = PublicationRegistry {
-                domain: domain,
-                publications: publications,
-                count: self.count,
-                leases: leases,
-                active: self.active,
-                counter: self.counter,
-            };
-            return RegistryCopy {
-                answer: Plain::Done,
-                registry: registry,
-            };
-        }
-        let registry = PublicationRegistry::new();
-        RegistryCopy {
-            answer: Plain::Refused(Refusal::BadTable),
-            registry: registry,
+        let Some(sound) = Sound::tested(self) else {
+            return refused(Refusal::BadTable, PublicationRegistry::new());
+        };
+        Answered {
+            answer: Ok(()),
+            table: sound.store.registry,
         }
     }
 
     // A publication's handle; Absent if unknown or reclaimed.
-    pub fn value(self, id: PublicationId) -> HandleAnswer
-        ensures { result ≡ handle_answer_of (query box (columns_of self) (value id)) }
+    pub fn value(self, id: PublicationId) -> Result<u64, Refusal>
+        ensures { result ≡ result_of (query box (columns_of self) (value id)) }
     {
-        if inner::is_sound(self) {
-            return match inner::observation(self, id) {
-                ObserveAnswer::Refused(r) => HandleAnswer::Refused(r),
-                ObserveAnswer::Observed(o) => HandleAnswer::Handle(o.handle),
-            };
+        let Some(sound) = Sound::tested(self) else {
+            return Err(Refusal::BadTable);
+        };
+        match sound.observation(id) {
+            Err(why) => Err(why),
+            Ok(o) => Ok(o.handle),
         }
-        HandleAnswer::Refused(Refusal::BadTable)
     }
 
     // A publication's revision and handle; Absent if unknown or reclaimed.
-    pub fn observation(self, id: PublicationId) -> ObserveAnswer
-        ensures { result ≡ observe_answer_of (command box (columns_of self) (Observe id)).answer }
+    pub fn observation(self, id: PublicationId) -> Result<Observation, Refusal>
+        ensures { result ≡ result_of (command box (columns_of self) (Observe id)).answer }
     {
-        if inner::is_sound(self) {
-            return inner::observation(self, id);
-        }
-        ObserveAnswer::Refused(Refusal::BadTable)
+        let Some(sound) = Sound::tested(self) else {
+            return Err(Refusal::BadTable);
+        };
+        sound.observation(id)
     }
 
     // The publication that a lease names and its handle, also once it is revoked. Unknown if never given out; Released if not active.
-    pub fn leased_value(self, lease: LeaseId) -> LeasedAnswer
-        ensures { result ≡ leased_answer_of (query box (columns_of self) (leased_value lease)) }
+    pub fn leased_value(self, lease: LeaseId) -> Result<Leased, Refusal>
+        ensures { result ≡ result_of (query box (columns_of self) (leased_value lease)) }
     {
-        if inner::is_sound(self) {
-            return match inner::leased_observation(self, lease) {
-                ReadAnswer::Refused(r) => LeasedAnswer::Refused(r),
-                ReadAnswer::Read(x) => {
-                    let id = x.id;
-                    LeasedAnswer::Value(Leased {
-                        id: id,
-                        handle: x.handle,
-                    })
-                }
-            };
+        let Some(sound) = Sound::tested(self) else {
+            return Err(Refusal::BadTable);
+        };
+        match sound.leased_observation(lease) {
+            Err(why) => Err(why),
+            Ok(read) => Ok(Leased {
+                id: read.id,
+                handle: read.handle,
+            }),
         }
-        LeasedAnswer::Refused(Refusal::BadTable)
     }
 
     // The same with the revision.
-    pub fn leased_observation(self, lease: LeaseId) -> ReadAnswer
-        ensures { result ≡ read_answer_of (command box (columns_of self) (Read lease)).answer }
+    pub fn leased_observation(self, lease: LeaseId) -> Result<Reading, Refusal>
+        ensures { result ≡ result_of (command box (columns_of self) (Read lease)).answer }
     {
-        if inner::is_sound(self) {
-            return inner::leased_observation(self, lease);
-        }
-        ReadAnswer::Refused(Refusal::BadTable)
+        let Some(sound) = Sound::tested(self) else {
+            return Err(Refusal::BadTable);
+        };
+        sound.leased_observation(lease)
     }
 
     // The publication that is visible on a port; else Absent.
-    pub fn resolve(self, port: Port) -> IdAnswer
-        ensures { result ≡ id_answer_of (command box (columns_of self) (Resolve port)).answer }
+    pub fn resolve(self, port: Port) -> Result<PublicationId, Refusal>
+        ensures { result ≡ result_of (command box (columns_of self) (Resolve port)).answer }
     {
-        if inner::is_sound(self) {
-            return inner::resolve(self, port);
-        }
-        IdAnswer::Refused(Refusal::BadTable)
+        let Some(sound) = Sound::tested(self) else {
+            return Err(Refusal::BadTable);
+        };
+        sound.resolve(port)
     }
 
     // How many publications are retained.
-    pub fn retained_count(self) -> CountAnswer
-        ensures { result ≡ count_answer_of (command box (columns_of self) Count).answer }
+    pub fn retained_count(self) -> Result<u64, Refusal>
+        ensures { result ≡ result_of (command box (columns_of self) Count).answer }
     {
-        if inner::is_sound(self) {
-            return inner::retained_count(self);
-        }
-        CountAnswer::Refused(Refusal::BadTable)
+        let Some(sound) = Sound::tested(self) else {
+            return Err(Refusal::BadTable);
+        };
+        sound.retained_count()
     }
 
     // Whether a retained publication holds the handle, 0 included.
     pub fn contains_handle(self, handle: u64) -> Contained
         ensures { result ≡ contained_of (query box (columns_of self) (contains_handle handle)) }
     {
-        if inner::is_sound(self) {
-            return inner::contains_handle(self, handle);
-        }
-        Contained {
-            answer: Plain::Refused(Refusal::BadTable),
-            present: false,
-        }
+        let Some(sound) = Sound::tested(self) else {
+            return Contained {
+                answer: Err(Refusal::BadTable),
+                present: false,
+            };
+        };
+        sound.contains_handle(handle)
     }
 
     // A new publication, visible and retained, at the next identifier, with revision 0; the handle is stored. Capacity at 96
     // records; Conflict where a visible publication holds the port.
-    pub fn publish(self, owner: Owner, generation: u64, port: Port, payload: u64) -> Published
-        ensures { result ≡ published_of (command box (columns_of self) (Publish owner generation port payload)) }
+    pub fn publish(
+        self,
+        owner: Owner,
+        generation: u64,
+        port: Port,
+        payload: u64,
+    ) -> Answered<Result<PublicationId, Rejected>, PublicationStore>
+        ensures { result ≡ returned_of (command box (columns_of self) (Publish owner generation port payload)) }
     {
-        if inner::is_sound(self) {
-            return inner::publish(self, owner, generation, port, payload);
-        }
-        Published {
-            answer: PublishAnswer::Refused(Refusal::BadTable, payload),
-            store: self,
-        }
+        let Some(sound) = Sound::tested(self) else {
+            return inner::rejected(Refusal::BadTable, payload, self);
+        };
+        sound.publish(owner, generation, port, payload)
     }
 
     // The earlier handle comes back, the new one is stored, and the revision goes up by 1. Unknown; InvalidState if the owner or the
     // generation differs; Revoked if not visible; Capacity at the revision's end.
-    pub fn replace(self, id: PublicationId, owner: Owner, generation: u64, payload: u64) -> Replaced
-        ensures { result ≡ replaced_of (command box (columns_of self) (Replace id owner generation payload)) }
+    pub fn replace(
+        self,
+        id: PublicationId,
+        owner: Owner,
+        generation: u64,
+        payload: u64,
+    ) -> Answered<Result<u64, Rejected>, PublicationStore>
+        ensures { result ≡ returned_of (command box (columns_of self) (Replace id owner generation payload)) }
     {
-        if inner::is_sound(self) {
-            return inner::replace(self, id, owner, generation, payload);
-        }
-        Replaced {
-            answer: ReplaceAnswer::Refused(Refusal::BadTable, payload),
-            store: self,
-        }
+        let Some(sound) = Sound::tested(self) else {
+            return inner::rejected(Refusal::BadTable, payload, self);
+        };
+        sound.replace(id, owner, generation, payload)
     }
 
     // No longer visible; repeating it is allowed, on reclaimed ones too. Unknown.
-    pub fn revoke(self, id: PublicationId) -> Changed
-        ensures { result ≡ changed_of (command box (columns_of self) (Revoke id)) }
+    pub fn revoke(self, id: PublicationId) -> Answered<Result<(), Refusal>, PublicationStore>
+        ensures { result ≡ answered_of (command box (columns_of self) (Revoke id)) }
     {
-        if inner::is_sound(self) {
-            return inner::revoke(self, id);
-        }
-        Changed {
-            answer: Plain::Refused(Refusal::BadTable),
-            store: self,
-        }
+        let Some(sound) = Sound::tested(self) else {
+            return refused(Refusal::BadTable, self);
+        };
+        sound.revoke(id)
     }
 
     // A lease for an owner in a generation. Unknown; Revoked if not visible; Capacity at 128 active leases or the counter's end.
-    pub fn acquire_for(self, id: PublicationId, owner: Owner, generation: u64) -> Acquired
-        ensures { result ≡ acquired_of (command box (columns_of self) (Acquire id owner generation)) }
+    pub fn acquire_for(
+        self,
+        id: PublicationId,
+        owner: Owner,
+        generation: u64,
+    ) -> Answered<Result<LeaseId, Refusal>, PublicationStore>
+        ensures { result ≡ answered_of (command box (columns_of self) (Acquire id owner generation)) }
     {
-        if inner::is_sound(self) {
-            return inner::acquire_for(self, id, owner, generation);
-        }
-        Acquired {
-            answer: LeaseIdAnswer::Refused(Refusal::BadTable),
-            store: self,
-        }
+        let Some(sound) = Sound::tested(self) else {
+            return refused(Refusal::BadTable, self);
+        };
+        sound.acquire_for(id, owner, generation)
     }
 
     // The lease ends: its record is out, and later ones move up. Unknown if never given out; Released if not active.
-    pub fn release(self, lease: LeaseId) -> Changed
-        ensures { result ≡ changed_of (command box (columns_of self) (Release lease)) }
+    pub fn release(self, lease: LeaseId) -> Answered<Result<(), Refusal>, PublicationStore>
+        ensures { result ≡ answered_of (command box (columns_of self) (Release lease)) }
     {
-        if inner::is_sound(self) {
-            return inner::release(self, lease);
-        }
-        Changed {
-            answer: Plain::Refused(Refusal::BadTable),
-            store: self,
-        }
+        let Some(sound) = Sound::tested(self) else {
+            return refused(Refusal::BadTable, self);
+        };
+        sound.release(lease)
     }
 
     // The generation becomes 1. Unknown; Released if reclaimed; InvalidState if the owner differs, the stored generation isn't 0
     // or the new one isn't 1; Relied while a lease is active.
-    pub fn adopt(self, id: PublicationId, owner: Owner, generation: u64) -> Changed
-        ensures { result ≡ changed_of (command box (columns_of self) (Adopt id owner generation)) }
+    pub fn adopt(
+        self,
+        id: PublicationId,
+        owner: Owner,
+        generation: u64,
+    ) -> Answered<Result<(), Refusal>, PublicationStore>
+        ensures { result ≡ answered_of (command box (columns_of self) (Adopt id owner generation)) }
     {
-        if inner::is_sound(self) {
-            return inner::adopt(self, id, owner, generation);
-        }
-        Changed {
-            answer: Plain::Refused(Refusal::BadTable),
-            store: self,
-        }
+        let Some(sound) = Sound::tested(self) else {
+            return refused(Refusal::BadTable, self);
+        };
+        sound.adopt(id, owner, generation)
     }
 
     // No longer retained: the handle comes back, its cell is 0, and the revision stays. Unknown; Visible; Released if reclaimed
     // before; Relied while a lease is active.
-    pub fn reclaim(self, id: PublicationId) -> Reclaimed
-        ensures { result ≡ reclaimed_of (command box (columns_of self) (Reclaim id)) }
+    pub fn reclaim(self, id: PublicationId) -> Answered<Result<u64, Refusal>, PublicationStore>
+        ensures { result ≡ answered_of (command box (columns_of self) (Reclaim id)) }
     {
-        if inner::is_sound(self) {
-            return inner::reclaim(self, id);
-        }
-        Reclaimed {
-            answer: HandleAnswer::Refused(Refusal::BadTable),
-            store: self,
-        }
+        let Some(sound) = Sound::tested(self) else {
+            return refused(Refusal::BadTable, self);
+        };
+        sound.reclaim(id)
     }
 
     // Any command: what it is answered, in one type for all of them, and the store that it leaves.
-    pub fn apply(self, command: Command) -> Applied
+    pub fn apply(self, command: Command) -> Answered<Response, PublicationStore>
         ensures { result ≡ applied_of (columns_of self) command }
     {
-        if inner::is_sound(self) {
-            return inner::any::apply(self, command);
-        }
-        let response = bad_table(command);
-        Applied {
-            response: response,
-            store: self,
-        }
+        let Some(sound) = Sound::tested(self) else {
+            return Answered {
+                answer: bad_table(command),
+                table: self,
+            };
+        };
+        inner::any::apply(sound, command)
     }
 }
 
@@ -388,27 +287,10 @@ fn bad_table(command: Command) -> Response
     ensures { result ≡ refusal_of command BadTable (offered command) }
 {
     match command {
-        Command::Publish {
-            owner: _,
-            generation: _,
-            port: _,
-            payload,
-        } => Response::Returned(Refusal::BadTable, payload),
-        Command::Replace {
-            id: _,
-            owner: _,
-            generation: _,
-            payload,
-        } => Response::Returned(Refusal::BadTable, payload),
-        Command::Adopt { .. }
-        | Command::Acquire { .. }
-        | Command::Release { .. }
-        | Command::Revoke { .. }
-        | Command::Reclaim { .. }
-        | Command::Read { .. }
-        | Command::Observe { .. }
-        | Command::Resolve { .. }
-        | Command::Count => Response::Refused(Refusal::BadTable),
+        Command::Publish { payload, .. } | Command::Replace { payload, .. } => {
+            Response::Returned(Refusal::BadTable, payload)
+        }
+        _ => Response::Refused(Refusal::BadTable),
     }
 }
 
@@ -416,7 +298,7 @@ impl ValueCell {
     pub fn new(value: u64) -> ValueCell
         ensures { result ≡ value_cell_of (new_cell value) }
     {
-        ValueCell { value: value }
+        ValueCell { value }
     }
 
     // The handle.
@@ -432,7 +314,7 @@ impl ValueCell {
     {
         Exchanged {
             earlier: self.value,
-            cell: ValueCell { value: value },
+            cell: ValueCell { value },
         }
     }
 }

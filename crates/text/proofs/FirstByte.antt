@@ -4,7 +4,9 @@ use Prim.Native.Nat.{ℕ, ◌+◌}
 use mathlib.Core.Path.{◌≡◌, ap, subst}
 use mathlib.Core.List.{List, [], ◌∷◌, ◌++◌}
 use native.Mathlib.Omega.{arith}
-use Rattle.text.specs.Reading.{Reading, unfinished, wrong, got, Form, Stands, Begins, Means}
+use Rattle.std.specs.Prelude.{Ok, Err}
+use Rattle.text.specs.Reading.{Reading, Form, Stands, Begins, Means}
+use Rattle.text.specs.declared.Misread.TheVariants.{Unfinished, Wrong}
 
 module _ {A : Type 0} (F : Form A) where
   -- where the input ends, no text stands that has bytes
@@ -31,12 +33,12 @@ module _ {A : Type 0} (F : Form A) where
     begins_back xs b = record { more = b.more; says = b.says; form = back (xs ++ b.more) b.says b.form }
 
     pub means_cons : (xs : List ℕ) (at : ℕ) (r : Reading A) → Means G xs (at + 1) r → Means F (x ∷ xs) at r
-    means_cons xs at unfinished m = (
+    means_cons xs at (Err Unfinished) m = (
       λ t. m.0 (stands_back xs t),
       record { more = m.1.more; says = m.1.says; form = on (xs ++ m.1.more) m.1.says m.1.form },
     )
-    means_cons xs at wrong m = (λ t. m.0 (stands_back xs t), λ b. m.1 (begins_back xs b))
-    means_cons xs at (got a next) m =
+    means_cons xs at (Err Wrong) m = (λ t. m.0 (stands_back xs t), λ b. m.1 (begins_back xs b))
+    means_cons xs at (Ok (a, next)) m =
         let t = m.0 in (
           record { text = x ∷ t.text; says = t.says; rest = t.rest; form = on t.text t.says t.form; here = ap (λ (l : List ℕ). x ∷ l) t.here },
           m.1,
@@ -45,5 +47,5 @@ module _ {A : Type 0} (F : Form A) where
 
 -- no text starts with x
 pub never : {A : Type 0} (F : Form A) (x : ℕ) (xs : List ℕ) (at : ℕ) → ((w : List ℕ) (a : A) → F (x ∷ w) a → ⊥) → ((a : A) → F [] a → ⊥)
-    → Means F (x ∷ xs) at wrong
-never F x xs at other some = means_cons F (λ w a. ⊥) x (λ w a f. absurd f) other some xs at wrong (λ t. t.form, λ b. b.form)
+    → Means F (x ∷ xs) at (Err Wrong)
+never F x xs at other some = means_cons F (λ w a. ⊥) x (λ w a f. absurd f) other some xs at (Err Wrong) (λ t. t.form, λ b. b.form)

@@ -5,12 +5,12 @@ pub mod Decimal
 pub mod Values
 pub mod Words
 pub mod Ops
+pub mod OpRows
 pub mod KeyLines
 pub mod Digits
 pub mod KeyTable
 pub mod ValueTurns
 pub mod WordTurns
 pub mod OpTurns
-pub mod LineTurns
 pub mod Cases
 pub mod Build

@@ -14,21 +14,20 @@ use Rattle.lists.specs.Every.{every}
 use Rattle.lists.specs.Search.{some_pass}
 use Rattle.lists.proofs.Every.{parts, every_at, below_at}
 use Rattle.lists.proofs.Search.{none_of}
-use Rattle.text.specs.Reading.{Form, Stands, Means, Apart, Exact, got}
-use Rattle.text.specs.Words.{TheWord, compared, word_at, word_reading}
-use Rattle.text.specs.Ops.{op_lines, RowOf, OpLine, row_found, row_at, or_next, first_row, op_at, op_reading}
-use Rattle.text.specs.declared.Word as W
-use Rattle.text.specs.declared.Op.{Op}
-use Rattle.text.specs.declared.Op.TheVariants.{Row}
+use Rattle.std.specs.Prelude.{Ok, Err}
+use Rattle.text.specs.Reading.{Reading, Form, Stands, Means, Apart, Exact}
+use Rattle.text.specs.Words.{TheWord, Found, compared, word_at, word_reading}
+use Rattle.text.specs.Ops.{op_lines, RowOf, OpLine, row_found, row_at, or_next, first_row, op_at}
+use Rattle.text.specs.declared.Misread.TheVariants.{Unfinished, Wrong}
 use Rattle.text.proofs.Reading.{means_other, means_same, shows, within}
 use Rattle.text.proofs.Words.{word_exact}
 
 -- whether one of two words begins the other
 
-not_wrong : W.Word → Bool
-not_wrong W.TheVariants.Unfinished = true
-not_wrong W.TheVariants.Wrong = false
-not_wrong W.TheVariants.Is = true
+not_wrong : Found → Bool
+not_wrong (Err Unfinished) = true
+not_wrong (Err Wrong) = false
+not_wrong (Ok u) = true
 
 meets : List ℕ → List ℕ → Bool
 meets w v = not_wrong (compared w v)
@@ -90,13 +89,13 @@ module _ (w : List ℕ) (ws : List (List ℕ)) (p : parted (w ∷ ws) ≡ true) 
   here : (v : List ℕ) → v ≡ w → Counted r (w ∷ ws) v r
   here v e = (zero, omega arith, record { below = omega arith; text = e })
 
-  first_decides : (b : W.Word) → Means (TheWord w) xs at (word_reading w at b) → (other : Op) → Means (Counted (r + 1) ws) xs at (op_reading other)
-      → Means (Counted r (w ∷ ws)) xs at (op_reading (or_next (row_found r (at + length w) b) other))
-  first_decides W.TheVariants.Is m other k =
+  first_decides : (b : Found) → Means (TheWord w) xs at (word_reading w at b) → (other : Reading ℕ) → Means (Counted (r + 1) ws) xs at other
+      → Means (Counted r (w ∷ ws)) xs at (or_next (row_found r (at + length w) b) other)
+  first_decides (Ok u) m other k =
       let t = m.0 in
       (record { text = t.text; says = r; rest = t.rest; form = here t.text t.form; here = t.here }, refl, m.2)
-  first_decides W.TheVariants.Wrong m other k = means_other (TheWord w) (Counted (r + 1) ws) (Counted r (w ∷ ws)) one_of later xs m.0 m.1 at (op_reading other) k
-  first_decides W.TheVariants.Unfinished m other k = (
+  first_decides (Err Wrong) m other k = means_other (TheWord w) (Counted (r + 1) ws) (Counted r (w ∷ ws)) one_of later xs m.0 m.1 at other k
+  first_decides (Err Unfinished) m other k = (
     λ t. go t (one_of t.text t.says t.form),
     record { more = m.1.more; says = r; form = here (xs ++ m.1.more) m.1.form },
   )
@@ -109,7 +108,7 @@ module _ (w : List ℕ) (ws : List (List ℕ)) (p : parted (w ∷ ws) ≡ true) 
           append-nil w ∙ sym m.1.form ∙ ap (λ (l : List ℕ). l ++ m.1.more) (t.here ∙ ap (λ (l : List ℕ). l ++ t.rest) f.text) ∙ append_assoc v t.rest m.1.more in
           false≢true (sym (apart_from w ws p k f.below) ∙ both_begin w v [] (t.rest ++ m.1.more) q)
 
-first_means : (table : List (List ℕ)) → parted table ≡ true → (r : ℕ) (s : List ℕ) (at : ℕ) → Means (Counted r table) (drop at s) at (op_reading (first_row table r s at))
+first_means : (table : List (List ℕ)) → parted table ≡ true → (r : ℕ) (s : List ℕ) (at : ℕ) → Means (Counted r table) (drop at s) at (first_row table r s at)
 unfolding first_row row_at
 first_means [] p r s at = (λ t. not-suc-le-zero t.form.2.below, λ b. not-suc-le-zero b.form.2.below)
 first_means (w ∷ ws) p r s at =
@@ -119,22 +118,21 @@ first_means (w ∷ ws) p r s at =
 pub op_apart : Apart OpLine
 op_apart = rows_apart op_lines op_lines_parted
 
-pub op_exact : Exact OpLine (λ s at. op_reading (op_at s at))
+pub op_exact : Exact OpLine op_at
 unfolding op_at
 op_exact =
     record {
       apart = op_apart;
       means = λ s at.
-          means_same (Counted 0 op_lines) OpLine (λ w n f. (n, omega arith, f)) (λ w n f. subst (RowOf op_lines w) (omega (arith, f.1)) f.2) (drop at s) at (op_reading (first_row op_lines 0 s at))
+          means_same (Counted 0 op_lines) OpLine (λ w n f. (n, omega arith, f)) (λ w n f. subst (RowOf op_lines w) (omega (arith, f.1)) f.2) (drop at s) at (first_row op_lines 0 s at)
           (first_means op_lines op_lines_parted 0 s at);
     }
 
 -- an op line that was read: its row is one of the table, and it ends after its start, within the input
-pub op_next : (s : List ℕ) (at r next : ℕ) → op_at s at ≡ Row r next → (r < length op_lines) × (at < next) × (next ≤ length s)
+pub op_next : (s : List ℕ) (at r next : ℕ) → op_at s at ≡ Ok (r, next) → (r < length op_lines) × (at < next) × (next ≤ length s)
 op_next s at r next e =
-    let q = ap op_reading e in
-    let m = shows OpLine (λ s at. op_reading (op_at s at)) op_exact s at (got r next) q in
-    let n = within OpLine (λ s at. op_reading (op_at s at)) op_exact s at some r next q in
+    let m = shows OpLine op_at op_exact s at (Ok (r, next)) e in
+    let n = within OpLine op_at op_exact s at some r next e in
     (omega (arith, m.0.form.below, m.1), n.0, n.1)
   where
     some : (k : ℕ) → OpLine [] k → ⊥

@@ -8,7 +8,9 @@ use native.Mathlib.Omega.{arith}
 use lib.ListN.{length, drop, length-append, length-drop}
 use lib.Seq.{drop-append-le}
 use Rattle.lists.proofs.Append.{append_split}
-use Rattle.text.specs.Reading.{Reading, unfinished, wrong, got, Form, Stands, Begins, Means, Apart, Exact}
+use Rattle.std.specs.Prelude.{Ok, Err}
+use Rattle.text.specs.Reading.{Reading, Form, Stands, Begins, Means, Apart, Exact}
+use Rattle.text.specs.declared.Misread.TheVariants.{Unfinished, Wrong}
 
 module _ {A : Type 0} (F : Form A) where
   -- a text at the start of a longer input stands in the first part or is begun by it
@@ -20,15 +22,15 @@ module _ {A : Type 0} (F : Form A) where
 
   -- two answers that both have the meaning are one
   pub means_one : Apart F → (xs : List ℕ) (at : ℕ) (r q : Reading A) → Means F xs at r → Means F xs at q → r ≡ q
-  means_one apart xs at unfinished unfinished m k = refl
-  means_one apart xs at unfinished wrong m k = absurd (k.1 m.1)
-  means_one apart xs at unfinished (got b next) m k = absurd (m.0 k.0)
-  means_one apart xs at wrong unfinished m k = absurd (m.1 k.1)
-  means_one apart xs at wrong wrong m k = refl
-  means_one apart xs at wrong (got b next) m k = absurd (m.0 k.0)
-  means_one apart xs at (got a to) unfinished m k = absurd (k.0 m.0)
-  means_one apart xs at (got a to) wrong m k = absurd (k.0 m.0)
-  means_one apart xs at (got a to) (got b next) m k =
+  means_one apart xs at (Err Unfinished) (Err Unfinished) m k = refl
+  means_one apart xs at (Err Unfinished) (Err Wrong) m k = absurd (k.1 m.1)
+  means_one apart xs at (Err Unfinished) (Ok (b, next)) m k = absurd (m.0 k.0)
+  means_one apart xs at (Err Wrong) (Err Unfinished) m k = absurd (m.1 k.1)
+  means_one apart xs at (Err Wrong) (Err Wrong) m k = refl
+  means_one apart xs at (Err Wrong) (Ok (b, next)) m k = absurd (m.0 k.0)
+  means_one apart xs at (Ok (a, to)) (Err Unfinished) m k = absurd (k.0 m.0)
+  means_one apart xs at (Ok (a, to)) (Err Wrong) m k = absurd (k.0 m.0)
+  means_one apart xs at (Ok (a, to)) (Ok (b, next)) m k =
       let t = m.0 in
       let u = k.0 in
       let e = apart t.text u.text t.says u.says t.rest u.rest t.form u.form (sym t.here ∙ u.here) in
@@ -41,17 +43,17 @@ module _ {A : Type 0} (F : Form A) where
     only r m = means_one E.apart (drop at s) at (read s at) r (E.means s at) m
 
     -- each text of the form is read, whatever stands after it
-    pub reads : (w rest : List ℕ) (a : A) → F w a → drop at s ≡ w ++ rest → read s at ≡ got a (at + length w)
-    reads w rest a f e = only (got a (at + length w)) (record { text = w; says = a; rest = rest; form = f; here = e }, refl, refl)
+    pub reads : (w rest : List ℕ) (a : A) → F w a → drop at s ≡ w ++ rest → read s at ≡ Ok (a, at + length w)
+    reads w rest a f e = only (Ok (a, at + length w)) (record { text = w; says = a; rest = rest; form = f; here = e }, refl, refl)
 
     -- what is read has the form; unfinished and wrong mean what they should
     pub shows : (r : Reading A) → read s at ≡ r → Means F (drop at s) at r
     shows r e = subst (λ (r : Reading A). Means F (drop at s) at r) e (E.means s at)
 
     -- what is read lies within the input
-    pub within : ((a : A) → F [] a → ⊥) → (a : A) (next : ℕ) → read s at ≡ got a next → (at < next) × (next ≤ length s)
+    pub within : ((a : A) → F [] a → ⊥) → (a : A) (next : ℕ) → read s at ≡ Ok (a, next) → (at < next) × (next ≤ length s)
     within some a next e =
-        let m = shows (got a next) e in
+        let m = shows (Ok (a, next)) e in
         let t = m.0 in
         let l = ap length t.here ∙ length-append t.text t.rest in
         let d = length-drop at s in
@@ -64,23 +66,23 @@ module _ {A : Type 0} (F : Form A) where
 
     -- more input changes neither what was read nor that it is wrong
     module _ (in-it : at ≤ length s) (more : List ℕ) where
-      pub got_stays : (a : A) (next : ℕ) → read s at ≡ got a next → read (s ++ more) at ≡ got a next
+      pub got_stays : (a : A) (next : ℕ) → read s at ≡ Ok (a, next) → read (s ++ more) at ≡ Ok (a, next)
       got_stays a next e =
-          let m = shows (got a next) e in
+          let m = shows (Ok (a, next)) e in
           let t = m.0 in
           let h : drop at (s ++ more) ≡ t.text ++ (t.rest ++ more) =
           drop-append-le at s more in-it ∙ ap (λ (l : List ℕ). l ++ more) t.here ∙ append_assoc t.text t.rest more in
-          means_one E.apart (drop at (s ++ more)) at (read (s ++ more) at) (got a next) (E.means (s ++ more) at) (record { text = t.text; says = t.says; rest = t.rest ++ more; form = t.form; here = h }, m.1, m.2)
+          means_one E.apart (drop at (s ++ more)) at (read (s ++ more) at) (Ok (a, next)) (E.means (s ++ more) at) (record { text = t.text; says = t.says; rest = t.rest ++ more; form = t.form; here = h }, m.1, m.2)
 
-      pub wrong_stays : read s at ≡ wrong → read (s ++ more) at ≡ wrong
-      wrong_stays e = means_one E.apart (drop at (s ++ more)) at (read (s ++ more) at) wrong (E.means (s ++ more) at) (rw (drop-append-le at s more in-it) (none, never_any))
+      pub wrong_stays : read s at ≡ Err Wrong → read (s ++ more) at ≡ Err Wrong
+      wrong_stays e = means_one E.apart (drop at (s ++ more)) at (read (s ++ more) at) (Err Wrong) (E.means (s ++ more) at) (rw (drop-append-le at s more in-it) (none, never_any))
         where
           none : Stands F (drop at s ++ more) → ⊥
-          none t = let m = shows wrong e in ⊎_elim m.0 m.1 (here_or_begun (drop at s) more t)
+          none t = let m = shows (Err Wrong) e in ⊎_elim m.0 m.1 (here_or_begun (drop at s) more t)
 
           never_any : Begins F (drop at s ++ more) → ⊥
           never_any b =
-              (shows wrong e).1 (record { more = more ++ b.more; says = b.says; form = subst (λ (w : List ℕ). F w b.says) (append_assoc (drop at s) more b.more) b.form })
+              (shows (Err Wrong) e).1 (record { more = more ++ b.more; says = b.says; form = subst (λ (w : List ℕ). F w b.says) (append_assoc (drop at s) more b.more) b.form })
 
 -- texts of H that are of F or of G, where none of F stands here nor begins here
 module _ {A C : Type 0} (F : Form C) (G H : Form A) (cases : (w : List ℕ) (a : A) → H w a → ((c : C) × F w c) ⊎ G w a)
@@ -98,12 +100,12 @@ module _ {A C : Type 0} (F : Form C) (G H : Form A) (cases : (w : List ℕ) (a :
       (cases (xs ++ b.more) b.says b.form)
 
   pub means_other : (at : ℕ) (r : Reading A) → Means G xs at r → Means H xs at r
-  means_other at unfinished m = (
+  means_other at (Err Unfinished) m = (
     λ t. m.0 (stands_other t),
     record { more = m.1.more; says = m.1.says; form = back (xs ++ m.1.more) m.1.says m.1.form },
   )
-  means_other at wrong m = (λ t. m.0 (stands_other t), λ b. m.1 (begins_other b))
-  means_other at (got a next) m =
+  means_other at (Err Wrong) m = (λ t. m.0 (stands_other t), λ b. m.1 (begins_other b))
+  means_other at (Ok (a, next)) m =
       let t = m.0 in
       (record { text = t.text; says = t.says; rest = t.rest; form = back t.text t.says t.form; here = t.here }, m.1, m.2)
 

@@ -8,7 +8,9 @@ use native.Mathlib.Omega.{arith}
 use lib.ListN.{length, drop, length-append}
 use lib.Seq.{drop-drop, drop-append_seam}
 use Rattle.lists.proofs.Append.{append_cancel}
-use Rattle.text.specs.Reading.{Reading, unfinished, wrong, got, Form, Stands, Begins, Means, Apart, Exact, Then, then_read}
+use Rattle.std.specs.Prelude.{Ok, Err}
+use Rattle.text.specs.Reading.{Reading, Form, Stands, Begins, Means, Apart, Exact, Then, then_read}
+use Rattle.text.specs.declared.Misread.TheVariants.{Unfinished, Wrong}
 use Rattle.text.proofs.Reading.{here_or_begun}
 
 module _ {A B : Type 0} (F : Form A) (G : A → Form B) (apart : Apart F) where
@@ -43,7 +45,7 @@ module _ {A B : Type 0} (F : Form A) (G : A → Form B) (apart : Apart F) where
         }
 
     -- the first text is not here and can't become one
-    then_wrong : (at : ℕ) → Means F xs at wrong → Means (Then F G) xs at wrong
+    then_wrong : (at : ℕ) → Means F xs at (Err Wrong) → Means (Then F G) xs at (Err Wrong)
     then_wrong at m = (
       λ t. m.0 (first_stands t),
       λ b.
@@ -52,7 +54,7 @@ module _ {A B : Type 0} (F : Form A) (G : A → Form B) (apart : Apart F) where
     )
 
     -- the first text begins here
-    then_unfinished : ((a : A) → (w : List ℕ) × (b : B) × G a w b) → (at : ℕ) → Means F xs at unfinished → Means (Then F G) xs at unfinished
+    then_unfinished : ((a : A) → (w : List ℕ) × (b : B) × G a w b) → (at : ℕ) → Means F xs at (Err Unfinished) → Means (Then F G) xs at (Err Unfinished)
     then_unfinished some at m =
         let b = m.1 in
         let g = some b.says in (
@@ -79,7 +81,7 @@ module _ {A B : Type 0} (F : Form A) (G : A → Form B) (apart : Apart F) where
           record { more = b.more; says = b.says; form = subst (λ (w : List ℕ). G t.says w b.says) (sym (append-nil s.0) ∙ s.2) s.1 }
 
       then_got : (at : ℕ) (r : Reading B) → Means (G t.says) t.rest (at + length t.text) r → Means (Then F G) xs at r
-      then_got at unfinished m = (
+      then_got at (Err Unfinished) m = (
         λ z. m.0 (second_stands z),
         record {
           more = m.1.more;
@@ -94,8 +96,8 @@ module _ {A B : Type 0} (F : Form A) (G : A → Form B) (apart : Apart F) where
           };
         },
       )
-      then_got at wrong m = (λ z. m.0 (second_stands z), λ b. m.1 (second_begins b))
-      then_got at (got b next) m =
+      then_got at (Err Wrong) m = (λ z. m.0 (second_stands z), λ b. m.1 (second_begins b))
+      then_got at (Ok (b, next)) m =
           let u = m.0 in (
             record {
               text = t.text ++ u.text;
@@ -116,9 +118,9 @@ then_exact {A} {B} F G read after E each some =
     record { apart = then_apart F G E.apart (λ a. (each a).apart); means = λ s at. go s at (read s at) (E.means s at) }
   where
     go : (s : List ℕ) (at : ℕ) (r : Reading A) → Means F (drop at s) at r → Means (Then F G) (drop at s) at (then_read r (λ a. after a s))
-    go s at unfinished m = then_unfinished F G E.apart (drop at s) some at m
-    go s at wrong m = then_wrong F G E.apart (drop at s) at m
-    go s at (got a next) m =
+    go s at (Err Unfinished) m = then_unfinished F G E.apart (drop at s) some at m
+    go s at (Err Wrong) m = then_wrong F G E.apart (drop at s) at m
+    go s at (Ok (a, next)) m =
         let t = m.0 in
         let d : t.rest ≡ drop next s =
         sym (drop-append_seam t.text t.rest) ∙ ap (drop (length t.text)) (sym t.here) ∙ drop-drop (length t.text) at s ∙ ap (λ (k : ℕ). drop k s) m.2 in

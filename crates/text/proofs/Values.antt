@@ -9,10 +9,11 @@ use lib.ListN.{length, drop, length-append}
 use lib.Dec.{eqb}
 use borrow.Author.Tests.{eqb-true, eqb-false}
 use Rattle.lists.specs.Every.{Every}
+use Rattle.std.specs.Prelude.{Ok, Err}
 use Rattle.text.specs.Reading.{Form, Begins, Means, Exact}
 use Rattle.text.specs.Decimal.{line_feed, most_digits, Digit, with_digit, number_from, ValueText, Line, ValueLine}
-use Rattle.text.specs.Value.{goes_on, scan, value_at, value_reading}
-use Rattle.text.specs.declared.Value.TheVariants.{Wrong, Got}
+use Rattle.text.specs.Value.{goes_on, scan, value_at}
+use Rattle.text.specs.declared.Misread.TheVariants.{Wrong}
 use Rattle.text.proofs.Reading.{means_same}
 use Rattle.text.proofs.FirstByte.{none_at_end, never, means_cons}
 use Rattle.text.proofs.Decimal.{number_up, feed_no_digit, line_apart, OneMore, goes_on_is, is_goes_on}
@@ -75,7 +76,7 @@ zero_line lim n acc z y =
     record { text = 48 ∷ []; form = record { some = omega arith; most = omega arith; digits = ((omega arith, omega arith), tt); value = refl; fits = omega arith }; ended = refl }
 
 scan_means : (lim n acc i : ℕ) (xs : List ℕ) → n ≤ most_digits → acc ≤ lim → (n ≡ 0 → acc ≡ 0)
-    → Means (Line (Left lim n acc)) xs i (value_reading (scan lim n acc i xs))
+    → Means (Line (Left lim n acc)) xs i (scan lim n acc i xs)
 unfolding scan
 scan_means lim n acc i [] room ok first = (none_at_end (Line (Left lim n acc)) (line_some (Left lim n acc)), go (eqb n 0) refl)
   where
@@ -87,8 +88,8 @@ scan_means lim n acc i (x ∷ xs) room ok first =
   where
     go : (f : Bool) → eqb x line_feed ≡ f → (z : Bool) → eqb n 0 ≡ z → (g : Bool) → goes_on lim n acc x ≡ g
         → (n + 1 ≤ most_digits → with_digit acc x ≤ lim → (n + 1 ≡ 0 → with_digit acc x ≡ 0)
-        → Means (Line (Left lim (n + 1) (with_digit acc x))) xs (i + 1) (value_reading (scan lim (n + 1) (with_digit acc x) (i + 1) xs)))
-        → Means (Line (Left lim n acc)) (x ∷ xs) i (value_reading (cond f (cond z Wrong (Got acc (i + 1))) (cond g (scan lim (n + 1) (with_digit acc x) (i + 1) xs) Wrong)))
+        → Means (Line (Left lim (n + 1) (with_digit acc x))) xs (i + 1) (scan lim (n + 1) (with_digit acc x) (i + 1) xs))
+        → Means (Line (Left lim n acc)) (x ∷ xs) i (cond f (cond z (Err Wrong) (Ok (acc, i + 1))) (cond g (scan lim (n + 1) (with_digit acc x) (i + 1) xs) (Err Wrong)))
     go true f true z g e rec =
         never (Line (Left lim n acc)) x xs i (no_first_feed lim n acc x (eqb-true x line_feed f) (eqb-true n 0 z)) (line_some (Left lim n acc))
     go true f false z g e rec =
@@ -97,7 +98,7 @@ scan_means lim n acc i (x ∷ xs) room ok first =
     go false f z y true e rec =
         let o = goes_on_is lim n acc x e in
         means_cons (Line (Left lim n acc)) (Line (Left lim (n + 1) (with_digit acc x))) x (line_on lim n acc x o) (λ w v l. (line_back lim n acc x (eqb-false x line_feed f) w v l).1) (line_some (Left lim n acc))
-        xs i (value_reading (scan lim (n + 1) (with_digit acc x) (i + 1) xs))
+        xs i (scan lim (n + 1) (with_digit acc x) (i + 1) xs)
         (rec (omega (arith, o.room)) o.fits (λ q. absurd (let no_such : ⊥ = omega arith in no_such)))
     go false f z y false e rec =
         never (Line (Left lim n acc)) x xs i (λ w v l. true≢false (sym (is_goes_on lim n acc x (line_back lim n acc x (eqb-false x line_feed f) w v l).0) ∙ e)) (line_some (Left lim n acc))
@@ -114,13 +115,13 @@ all_left lim w v l =
     let t = l.form in
     record { text = l.text; form = record { some = omega (arith, t.some); most = omega (arith, t.most); digits = t.digits; value = t.value; fits = t.fits }; ended = l.ended }
 
-pub value_exact : (lim : ℕ) → Exact (ValueLine lim) (λ s at. value_reading (value_at lim s at))
+pub value_exact : (lim : ℕ) → Exact (ValueLine lim) (value_at lim)
 unfolding value_at
 value_exact lim =
     record {
       apart = line_apart (ValueText lim) (λ ds v t. t.digits) (λ ds v t. t.value);
       means = λ s at.
-          means_same (Line (Left lim 0 0)) (ValueLine lim) (left_all lim) (all_left lim) (drop at s) at (value_reading (scan lim 0 0 at (drop at s)))
+          means_same (Line (Left lim 0 0)) (ValueLine lim) (left_all lim) (all_left lim) (drop at s) at (scan lim 0 0 at (drop at s))
           (scan_means lim 0 0 at (drop at s) (omega arith) (omega arith) (λ e. e));
     }
 

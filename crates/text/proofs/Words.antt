@@ -8,10 +8,10 @@ use native.Mathlib.Omega.{arith}
 use lib.ListN.{drop}
 use lib.Dec.{eqb}
 use borrow.Author.Tests.{eqb-true, eqb-false}
+use Rattle.std.specs.Prelude.{Ok, Err}
 use Rattle.text.specs.Reading.{Means, Exact}
-use Rattle.text.specs.Words.{TheWord, compared, word_at, word_reading}
-use Rattle.text.specs.declared.Word.{Word}
-use Rattle.text.specs.declared.Word.TheVariants.{Unfinished, Wrong, Is}
+use Rattle.text.specs.Words.{TheWord, Found, compared, word_at, word_reading}
+use Rattle.text.specs.declared.Misread.TheVariants.{Unfinished, Wrong}
 use Rattle.text.proofs.FirstByte.{none_at_end, never, means_cons}
 
 -- no word is empty that has a first byte
@@ -24,13 +24,13 @@ compared_means [] xs at = (record { text = []; says = tt; rest = xs; form = refl
 compared_means (c ∷ cs) [] at = (none_at_end (TheWord (c ∷ cs)) (some c cs), record { more = c ∷ cs; says = tt; form = refl })
 compared_means (c ∷ cs) (x ∷ xs) at = go (eqb c x) refl (compared_means cs xs (at + 1))
   where
-    longer : (b : Word) → Means (TheWord cs) xs (at + 1) (word_reading cs (at + 1) b) → Means (TheWord cs) xs (at + 1) (word_reading (c ∷ cs) at b)
-    longer Unfinished m = m
-    longer Wrong m = m
-    longer Is m = (m.0, m.1, omega (arith, m.2))
+    longer : (b : Found) → Means (TheWord cs) xs (at + 1) (word_reading cs (at + 1) b) → Means (TheWord cs) xs (at + 1) (word_reading (c ∷ cs) at b)
+    longer (Err Unfinished) m = m
+    longer (Err Wrong) m = m
+    longer (Ok u) m = (m.0, m.1, omega (arith, m.2))
 
     go : (b : Bool) → eqb c x ≡ b → Means (TheWord cs) xs (at + 1) (word_reading cs (at + 1) (compared cs xs))
-        → Means (TheWord (c ∷ cs)) (x ∷ xs) at (word_reading (c ∷ cs) at (cond b (compared cs xs) Wrong))
+        → Means (TheWord (c ∷ cs)) (x ∷ xs) at (word_reading (c ∷ cs) at (cond b (compared cs xs) (Err Wrong)))
     go true e m =
         let q = eqb-true c x e in
         means_cons (TheWord (c ∷ cs)) (TheWord cs) x (λ w a f. cc) (λ w a f. cc) (some c cs) xs at (word_reading (c ∷ cs) at (compared cs xs)) (longer (compared cs xs) m)

@@ -1,12 +1,12 @@
 -- What a reader of text should answer. It looks at the rest of the input for a text of a form, and answers in one of three ways.
 -- Assumes nothing.
-use Rattle.std.specs.Prelude.{ℕ, ◌+◌, ◌≡◌, List, ◌++◌, length, drop}
+use Rattle.std.specs.Prelude.{ℕ, ◌+◌, ◌≡◌, List, ◌++◌, length, drop, Result, Ok, Err}
+use Rattle.text.specs.declared.Misread.{Misread}
+use Rattle.text.specs.declared.Misread.TheVariants.{Unfinished, Wrong}
 
--- got: what the text says, and the place after it
-pub data Reading (A : Type 0) : Type 0 where
-  unfinished : Reading A
-  wrong : Reading A
-  got : A → ℕ → Reading A
+-- what the text says and the place after it, or why nothing was read
+abbrev pub Reading : Type 0 → Type 0
+Reading A = Result (A × ℕ) Misread
 
 -- a form: which texts there are, and what each says
 abbrev pub Form : Type 0 → Type 1
@@ -29,9 +29,9 @@ module _ {A : Type 0} where
 
   -- what each answer means of the rest of the input, xs, which starts at the place at
   abbrev pub Means : Form A → List ℕ → ℕ → Reading A → Type 0
-  Means F xs at unfinished = (Stands F xs → ⊥) × Begins F xs
-  Means F xs at wrong = (Stands F xs → ⊥) × (Begins F xs → ⊥)
-  Means F xs at (got a next) = (t : Stands F xs) × (t.says ≡ a) × (at + length t.text ≡ next)
+  Means F xs at (Err Unfinished) = (Stands F xs → ⊥) × Begins F xs
+  Means F xs at (Err Wrong) = (Stands F xs → ⊥) × (Begins F xs → ⊥)
+  Means F xs at (Ok (a, next)) = (t : Stands F xs) × (t.says ≡ a) × (at + length t.text ≡ next)
 
   -- a form whose texts can be told apart: none begins another, and each says one thing
   abbrev pub Apart : Form A → Type 0
@@ -55,6 +55,5 @@ module _ {A B : Type 0} where
     pub text : w ≡ first ++ second
 
   abbrev pub then_read : Reading A → (A → ℕ → Reading B) → Reading B
-  then_read unfinished after = unfinished
-  then_read wrong after = wrong
-  then_read (got a next) after = after a next
+  then_read (Err e) after = Err e
+  then_read (Ok (a, next)) after = after a next

@@ -1,5 +1,6 @@
 -- No second outcome meets a contract: each fixes the answer and the whole table, refused or not, sound or damaged.
 -- Assumes nothing.
+use Rattle.std.specs.Prelude.{Option}
 use Prim.Native.Nat.{ℕ}
 use mathlib.Core.Path.{◌≡◌, sym, ap, ◌∙◌}
 use Rattle.rules.specs.Limits.{Limits}
@@ -11,7 +12,6 @@ use Rattle.rules.specs.Table.{empty_registry, empty_store}
 use Rattle.rules.specs.Columns.{RegistryColumns, StoreColumns, filled_registry, filled}
 use Rattle.rules.specs.ValueCell.{Cell, Replaced, new_cell, get_cell, replace_cell}
 use Rattle.rules.specs.Calls.{command, query, registry_call}
-use Rattle.rules.specs.declared.Domain.{Domain}
 use Rattle.rules.specs.declared.Command.{Command}
 
 -- what is fixed by an equation is fixed once
@@ -42,10 +42,10 @@ one_registry_outcome L c k o o' = only_one_outcome (registry_call L c k) o o'
 
 -- the makers
 
-pub one_store : (L : Limits) (d : Domain) (c c' : StoreColumns) → c ≡ filled L (empty_store d) → c' ≡ filled L (empty_store d) → c ≡ c'
+pub one_store : (L : Limits) (d : Option ℕ) (c c' : StoreColumns) → c ≡ filled L (empty_store d) → c' ≡ filled L (empty_store d) → c ≡ c'
 one_store L d c c' = only_one (filled L (empty_store d)) c c'
 
-pub one_registry : (L : Limits) (d : Domain) (c c' : RegistryColumns)
+pub one_registry : (L : Limits) (d : Option ℕ) (c c' : RegistryColumns)
     → c ≡ filled_registry L (empty_registry d)
     → c' ≡ filled_registry L (empty_registry d)
     → c ≡ c'

@@ -1,14 +1,12 @@
 -- What the registry's calls and the store's queries answer, by document 01's words, as one table of examples under one claim.
 -- Assumes nothing.
-use Rattle.std.specs.Prelude.{ℕ, ◌+◌, true, List, [], ◌∷◌, T}
+use Rattle.std.specs.Prelude.{ℕ, ◌+◌, true, List, [], ◌∷◌, T, Some, None}
 use Rattle.rules.specs.Table.{Registry, empty_registry}
 use Rattle.rules.specs.Rows.{step}
 use Rattle.rules.specs.Queries.{reply}
 use Rattle.rules.specs.RegistryRows.{registry_step}
 use Rattle.rules.specs.Probes as store
 use Rattle.rules.specs.Probes.{many}
-use Rattle.rules.specs.declared.Consumer.TheVariants.{Nobody}
-use Rattle.rules.specs.declared.Domain.TheVariants.{Unset, Number}
 use Rattle.tight.specs.Asked.{Example, of_registry, of_store, after, asked, ◌gives◌, ◌refused_with◌, all_right}
 use Rattle.tight.specs.RegistryCalls as registry
 use Rattle.tight.specs.StoreQueries as query
@@ -17,9 +15,9 @@ use Rattle.tight.specs.StoreQueries as query
 abbrev pub lending : ℕ → ℕ → Registry
 lending active counter =
     record {
-      domain = Unset;
+      domain = None;
       publications = store.entry 4 0 7 40 true true ∷ [];
-      leases = many active (λ n. store.lent n 0 Nobody) [];
+      leases = many active (λ n. store.lent n 0 None) [];
       counter = counter;
     }
 
@@ -28,7 +26,7 @@ lending active counter =
 abbrev pub examples : List Example
 examples =
     -- an empty registry: no domain, or a number; the three counts; what names nothing
-    of_registry (empty_registry Unset)
+    of_registry (empty_registry None)
     ((registry.domain gives 0 ∷ [])
     ∷ (registry.publication_records gives 0 ∷ [])
     ∷ (registry.lease_record_count gives 0 ∷ [])
@@ -44,10 +42,10 @@ examples =
     ∷ (registry.revoke 0 refused_with 1)
     ∷ (registry.reclaim 0 refused_with 1)
     ∷ [])
-    ∷ of_registry (empty_registry (Number 0)) ((registry.domain gives 1 ∷ 0 ∷ []) ∷ [])
-    ∷ of_registry (empty_registry (Number 18_446_744_073_709_551_615)) ((registry.domain gives 1 ∷ 18_446_744_073_709_551_615 ∷ []) ∷ [])
+    ∷ of_registry (empty_registry (Some 0)) ((registry.domain gives 1 ∷ 0 ∷ []) ∷ [])
+    ∷ of_registry (empty_registry (Some 18_446_744_073_709_551_615)) ((registry.domain gives 1 ∷ 18_446_744_073_709_551_615 ∷ []) ∷ [])
     -- publish: identifiers from 0 on, the caller's slot; 3 while the port is visible, or the slot retained, or both
-    ∷ of_registry (empty_registry (Number 6))
+    ∷ of_registry (empty_registry (Some 6))
     ((registry.publish 4 0 7 40 gives 0 ∷ [])
     ∷ (registry.entry 0 gives 4 ∷ 0 ∷ 7 ∷ 40 ∷ 1 ∷ 1 ∷ [])
     ∷ (registry.publish 5 2 8 41 gives 1 ∷ [])
@@ -71,7 +69,7 @@ examples =
     ∷ (registry.domain gives 1 ∷ 6 ∷ [])
     ∷ [])
     -- publish: 96 records, 7 even where port or slot conflict; reclaimed ones are counted
-    ∷ of_registry (empty_registry Unset)
+    ∷ of_registry (empty_registry None)
     (many 96 (λ n. registry.publish 4 0 n (500 + n) gives n ∷ [])
     ((registry.publish 4 0 96 596 refused_with 7)
     ∷ (registry.publish 4 0 7 596 refused_with 7)
@@ -84,7 +82,7 @@ examples =
     ∷ (registry.entry 96 refused_with 10)
     ∷ []))
     -- adopt, and can_adopt as adopt, which changes nothing: 1, 6, 8, 4 in order, and what is carried out
-    ∷ of_registry (empty_registry Unset)
+    ∷ of_registry (empty_registry None)
     ((registry.publish 4 0 7 40 gives 0 ∷ [])
     ∷ (registry.can_adopt 1 4 1 refused_with 1)
     ∷ (registry.adopt 1 4 1 refused_with 1)
@@ -114,7 +112,7 @@ examples =
     ∷ (registry.adopt 1 5 1 refused_with 6)
     ∷ [])
     -- check_lease_capacity: active + count at 128 and above it, with 0, 3, 127 and 128 active
-    ∷ of_registry (empty_registry Unset)
+    ∷ of_registry (empty_registry None)
     ((registry.check_lease_capacity 0 gives [])
     ∷ (registry.check_lease_capacity 128 gives [])
     ∷ (registry.check_lease_capacity 129 refused_with 7)
@@ -145,7 +143,7 @@ examples =
     ∷ (registry.leased_slot 18_446_744_073_709_551_615 refused_with 1)
     ∷ [])
     -- acquire records no consumer, acquire_for one; lease shows the record; leased_slot, the slot of the one that the lease names
-    ∷ of_registry (empty_registry Unset)
+    ∷ of_registry (empty_registry None)
     ((registry.publish 4 0 7 40 gives 0 ∷ [])
     ∷ (registry.publish 4 0 8 41 gives 1 ∷ [])
     ∷ (registry.acquire 1 gives 0 ∷ [])

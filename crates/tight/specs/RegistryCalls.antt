@@ -1,8 +1,8 @@
 -- The registry's calls, with plain numbers in upstream's order.
 -- Assumes nothing.
-use Rattle.std.specs.Prelude.{ℕ}
+use Rattle.std.specs.Prelude.{ℕ, None}
 use Rattle.rules.specs.RegistryRows.{Call}
-use Rattle.rules.specs.declared.Consumer.TheVariants.{Nobody, Episode}
+use Rattle.rules.specs.Table.{taken_by}
 
 abbrev pub publish : ℕ → ℕ → ℕ → ℕ → Call
 publish owner generation port slot = Call.publish (record { 0 = owner }) generation (record { 0 = port }) slot
@@ -17,10 +17,10 @@ abbrev pub check_lease_capacity : ℕ → Call
 check_lease_capacity count = Call.check_lease_capacity count
 
 abbrev pub acquire : ℕ → Call
-acquire id = Call.acquire (record { 0 = id }) Nobody
+acquire id = Call.acquire (record { 0 = id }) None
 
 abbrev pub acquire_for : ℕ → ℕ → ℕ → Call
-acquire_for id owner generation = Call.acquire (record { 0 = id }) (Episode (record { 0 = owner }) generation)
+acquire_for id owner generation = Call.acquire (record { 0 = id }) (taken_by (record { 0 = owner }) generation)
 
 abbrev pub leased_slot : ℕ → Call
 leased_slot lease = Call.leased_slot (record { 0 = lease })

@@ -1,19 +1,16 @@
 -- The tables on which wrong outcomes are shown: sound ones, damaged ones, and changes of them.
 -- Assumes nothing.
-use Rattle.std.specs.Prelude.{true, false, [], ◌∷◌}
+use Rattle.std.specs.Prelude.{ℕ, true, false, [], ◌∷◌, Option, Some, None}
 use Rattle.lists.specs.Column.{padded}
 use Rattle.rules.specs.Limits.{box}
 use Rattle.rules.specs.Table.{blank_lease}
 use Rattle.rules.specs.Columns.{RegistryColumns, StoreColumns, filled_registry}
 use Rattle.rules.specs.Probes.{entry, lent}
 use Rattle.rules.specs.Damaged.{viewer, good, registry_with, publication_is, lease_is, leases_are, active_is, counter_is, payload_is, revision_is}
-use Rattle.rules.specs.declared.Consumer.TheVariants.{Nobody}
-use Rattle.rules.specs.declared.Domain.{Domain}
-use Rattle.rules.specs.declared.Domain.TheVariants.{Number}
 
 -- changes beside those of Damaged
 
-abbrev pub domain_is : Domain → StoreColumns → StoreColumns
+abbrev pub domain_is : Option ℕ → StoreColumns → StoreColumns
 domain_is d =
     registry_with (λ c. record { domain = d; publications = c.publications; count = c.count; leases = c.leases; active = c.active; counter = c.counter })
 
@@ -59,9 +56,9 @@ abbrev pub slotted : RegistryColumns
 slotted =
     filled_registry box
     (record {
-      domain = Number 6;
+      domain = Some 6;
       publications = entry 4 0 7 40 true true ∷ entry 4 0 8 41 false true ∷ entry 4 1 9 42 false false ∷ entry 4 0 9 43 true true ∷ [];
-      leases = lent 2 0 viewer ∷ lent 4 1 Nobody ∷ [];
+      leases = lent 2 0 viewer ∷ lent 4 1 None ∷ [];
       counter = 9;
     })
 
@@ -73,4 +70,4 @@ crossed = within (λ c. publication_is 1 (entry 4 5 7 41 true true) (publication
 
 -- two records of lease 2
 abbrev pub doubled : RegistryColumns
-doubled = within (lease_is 1 (lent 2 1 Nobody)) slotted
+doubled = within (lease_is 1 (lent 2 1 None)) slotted

@@ -1,7 +1,7 @@
 -- Outcomes as lists of numbers: the answer's number, its values or what stands beside the refusal, then every field of every record of
 -- the table left, used or not, and the counts. Outcomes that are told by different lists are different.
 -- Assumes nothing.
-use Rattle.std.specs.Prelude.{ℕ, Bool, true, false, List, [], ◌∷◌, ◌++◌, length}
+use Rattle.std.specs.Prelude.{ℕ, Bool, true, false, List, [], ◌∷◌, ◌++◌, length, Option, Some, None}
 use Rattle.rules.specs.Refusals.{refusal_number}
 use Rattle.rules.specs.Answers.{Outcome, refused, done, answer_number}
 use Rattle.rules.specs.Commands.{AnswerTo, answer_values}
@@ -14,9 +14,6 @@ use Rattle.rules.specs.Probes.{handles_back}
 use Rattle.rules.specs.declared.Publication.{Publication}
 use Rattle.rules.specs.declared.Lease.{Lease}
 use Rattle.rules.specs.declared.Consumer.{Consumer}
-use Rattle.rules.specs.declared.Consumer.TheVariants.{Nobody, Episode}
-use Rattle.rules.specs.declared.Domain.{Domain}
-use Rattle.rules.specs.declared.Domain.TheVariants.{Unset, Number}
 use Rattle.rules.specs.declared.Command.{Command}
 
 -- records
@@ -25,13 +22,13 @@ abbrev pub told_flag : Bool → ℕ
 told_flag true = 1
 told_flag false = 0
 
-abbrev pub told_domain : Domain → List ℕ
-told_domain Unset = 0 ∷ []
-told_domain (Number n) = 1 ∷ n ∷ []
+abbrev pub told_domain : Option ℕ → List ℕ
+told_domain None = 0 ∷ []
+told_domain (Some n) = 1 ∷ n ∷ []
 
-abbrev pub told_consumer : Consumer → List ℕ
-told_consumer Nobody = 0 ∷ []
-told_consumer (Episode o g) = 1 ∷ o.0 ∷ g ∷ []
+abbrev pub told_consumer : Option Consumer → List ℕ
+told_consumer None = 0 ∷ []
+told_consumer (Some k) = 1 ∷ k.owner.0 ∷ k.generation ∷ []
 
 abbrev pub told_publication : Publication → List ℕ
 told_publication e = e.owner.0 ∷ e.generation ∷ e.port.0 ∷ e.slot ∷ told_flag e.visible ∷ told_flag e.retained ∷ []

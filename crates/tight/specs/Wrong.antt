@@ -1,6 +1,6 @@
 -- Tables of wrong outcomes: what it means that a call's contract refuses them, and the test for it, which computes.
 -- Assumes nothing.
-use Rattle.std.specs.Prelude.{ℕ, ◌≢◌, Bool, true, false, not, List, [], ◌∷◌, ◌++◌, leb, length}
+use Rattle.std.specs.Prelude.{ℕ, ◌≢◌, Bool, true, false, not, List, [], ◌∷◌, ◌++◌, leb, length, Option}
 use Prim.Native.String.{String}
 use Rattle.lists.specs.Search.{how_many}
 use Rattle.lists.specs.Every.{every, implies, Every}
@@ -13,7 +13,6 @@ use Rattle.rules.specs.Calls as Calls
 use Rattle.rules.specs.ValueCell as ValueCell
 use Rattle.rules.specs.ValueCell.{Cell, Replaced}
 use Rattle.rules.specs.Probes.{same_numbers}
-use Rattle.rules.specs.declared.Domain.{Domain}
 use Rattle.rules.specs.declared.Command.{Command}
 use Rattle.tight.specs.Told.{told, told_answer, told_call, told_call_answer, told_reply, told_columns, told_registry_columns, told_handle, told_cell, told_replaced}
 use Rattle.tight.specs.Mistakes.{Named, CommandMistake, CallMistake, commanded, called}
@@ -21,11 +20,11 @@ use Rattle.tight.specs.Mistakes.{Named, CommandMistake, CallMistake, commanded, 
 -- A call, how its right answer is told, and wrong outcomes of it: one case for each kind of contract.
 pub data Row : Type 0 where
   -- the store: made, a command, a query
-  new_store : Domain → List (Named StoreColumns) → Row
+  new_store : Option ℕ → List (Named StoreColumns) → Row
   command : StoreColumns → (k : Command) → List ℕ → List (Named (CommandMistake k)) → Row
   query : StoreColumns → (q : Query) → List ℕ → List (Named (ReplyTo q)) → Row
   -- the registry: made, a call
-  new_registry : Domain → List (Named RegistryColumns) → Row
+  new_registry : Option ℕ → List (Named RegistryColumns) → Row
   call : RegistryColumns → (k : Call) → List ℕ → List (Named (CallMistake k)) → Row
   -- a cell: made, read, replaced
   new_cell : ℕ → List (Named Cell) → Row

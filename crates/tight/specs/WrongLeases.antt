@@ -1,7 +1,7 @@
 -- Wrong outcomes of the store's calls on leases: acquire_for, release, leased_observation, leased_value.
 -- After each call stands its right answer: the number, then the values or what stands beside the refusal.
 -- Assumes nothing.
-use Rattle.std.specs.Prelude.{false, true, List, [], ◌∷◌, T}
+use Rattle.std.specs.Prelude.{false, true, List, [], ◌∷◌, T, None}
 use Rattle.lists.specs.Column.{padded}
 use Rattle.rules.specs.Limits.{box}
 use Rattle.rules.specs.Answers.{refused, done}
@@ -13,8 +13,6 @@ use Rattle.rules.specs.Calls as Calls
 use Rattle.rules.specs.Probes as store
 use Rattle.rules.specs.Probes.{entry, lent}
 use Rattle.rules.specs.Damaged.{viewer, good, relied_on, publication_is, lease_is, payload_is, active_is, counter_is}
-use Rattle.rules.specs.declared.Consumer.TheVariants.{Nobody}
-use Rattle.rules.specs.declared.Domain.TheVariants.{Unset}
 use Rattle.rules.specs.declared.Refusal.TheVariants.{Unknown, Revoked, Relied, Released, Capacity, Absent}
 use Rattle.tight.specs.Plain.{lease, episode, reading, leased}
 use Rattle.tight.specs.StoreQueries as query
@@ -29,9 +27,9 @@ wrong_leases =
     (slip "does nothing" does_nothing
     ∷ slip "the counter is not raised" (leaves (counter_is 9))
     ∷ slip "the record is not counted" (leaves (active_is 2))
-    ∷ slip "no consumer is recorded" (leaves (lease_is 2 (lent 9 0 Nobody)))
+    ∷ slip "no consumer is recorded" (leaves (lease_is 2 (lent 9 0 None)))
     ∷ slip "owner and generation changed over" (leaves (lease_is 2 (lent 9 0 (episode 3 5))))
-    ∷ slip "the record comes first" (leaves (λ c. lease_is 0 (lent 9 0 (episode 5 3)) (lease_is 1 (lent 2 0 viewer) (lease_is 2 (lent 4 1 Nobody) c))))
+    ∷ slip "the record comes first" (leaves (λ c. lease_is 0 (lent 9 0 (episode 5 3)) (lease_is 1 (lent 2 0 viewer) (lease_is 2 (lent 4 1 None) c))))
     ∷ slip "answers the place in the column" (answers (done (lease 2)))
     ∷ slip "gives out a released identifier again" (answers (done (lease 3)))
     ∷ [])
@@ -62,11 +60,11 @@ wrong_leases =
     ∷ accepted "carries it out and answers Released" (answers (refused Released tt))
     ∷ accepted "always Unknown" (refuses Unknown)
     ∷ accepted "the counter goes back" (leaves (counter_is 5))
-    ∷ accepted "the domain is forgotten" (leaves (domain_is Unset))
+    ∷ accepted "the domain is forgotten" (leaves (domain_is None))
     ∷ accepted "a revoked one gets another owner" (leaves (publication_is 1 (entry 9 0 8 1 false true)))
     ∷ accepted "the other lease gets a consumer" (leaves (lease_is 0 (lent 4 1 viewer)))
-    ∷ slip "the record after the released one stays in its place" (leaves (λ c. active_is 2 (lease_is 0 blank_lease (lease_is 1 (lent 4 1 Nobody) c))))
-    ∷ slip "the last place is not blank" (leaves (lease_is 1 (lent 4 1 Nobody)))
+    ∷ slip "the record after the released one stays in its place" (leaves (λ c. active_is 2 (lease_is 0 blank_lease (lease_is 1 (lent 4 1 None) c))))
+    ∷ slip "the last place is not blank" (leaves (lease_is 1 (lent 4 1 None)))
     ∷ slip "only the number of leases goes down" (gives (done tt) (active_is 1 good))
     ∷ slip "hides the publication" (leaves (publication_is 0 (entry 4 0 7 0 false true)))
     ∷ [])

@@ -1,7 +1,7 @@
 -- Wrong outcomes of the store's commands on publications: publish, adopt, revoke, replace, reclaim.
 -- After each call stands its right answer: the number, then the values or what stands beside the refusal.
 -- Assumes nothing.
-use Rattle.std.specs.Prelude.{true, false, ◌&&◌, List, [], ◌∷◌, T, eqb}
+use Rattle.std.specs.Prelude.{true, false, ◌&&◌, List, [], ◌∷◌, T, eqb, Some}
 use Rattle.lists.specs.Column.{padded}
 use Rattle.lists.specs.Search.{some_pass}
 use Rattle.rules.specs.Limits.{box}
@@ -14,7 +14,6 @@ use Rattle.rules.specs.Calls as Calls
 use Rattle.rules.specs.Probes as store
 use Rattle.rules.specs.Probes.{entry}
 use Rattle.rules.specs.Damaged.{good, crowded, publication_is, payload_is, revision_is, count_is, counter_is}
-use Rattle.rules.specs.declared.Domain.TheVariants.{Number}
 use Rattle.rules.specs.declared.Refusal.TheVariants.{Unknown, Revoked, Conflict, Relied, Visible, Released, Capacity, InvalidState, BadTable, Absent}
 use Rattle.tight.specs.Plain.{publication}
 use Rattle.tight.specs.Tables.{domain_is, no_leases, drained, never_adopted, worn, left_behind, stray, clashing}
@@ -34,7 +33,7 @@ wrong_publications =
     ∷ slip "the generation is always 0" (leaves (publication_is 4 (entry 5 0 10 4 true true)))
     ∷ slip "out of sight at first" (leaves (publication_is 4 (entry 5 1 10 4 false true)))
     ∷ slip "a lease is counted as given out" (leaves (counter_is 10))
-    ∷ slip "the domain comes back as 7" (leaves (domain_is (Number 7)))
+    ∷ slip "the domain comes back as 7" (leaves (domain_is (Some 7)))
     ∷ [])
     -- on the port of a revoked one
     ∷ command good (store.publish 5 1 8 904) (0 ∷ 4 ∷ [])

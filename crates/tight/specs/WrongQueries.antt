@@ -1,7 +1,7 @@
 -- Wrong outcomes of the store's queries: value, observation, resolve, retained_count, contains_handle, registry.
 -- After each call stands its right answer: the number, then the values or what stands beside the refusal.
 -- Assumes nothing.
-use Rattle.std.specs.Prelude.{true, false, List, [], ◌∷◌, T}
+use Rattle.std.specs.Prelude.{true, false, List, [], ◌∷◌, T, Some, None}
 use Rattle.lists.specs.Column.{padded}
 use Rattle.rules.specs.Answers.{refused, done}
 use Rattle.rules.specs.Table.{empty_registry}
@@ -12,7 +12,6 @@ use Rattle.rules.specs.SoundTest.{registry_test, store_test}
 use Rattle.rules.specs.Calls as Calls
 use Rattle.rules.specs.Probes as store
 use Rattle.rules.specs.Damaged.{good, payload_is, counter_is}
-use Rattle.rules.specs.declared.Domain.TheVariants.{Unset, Number}
 use Rattle.rules.specs.declared.Refusal.TheVariants.{Unknown, Revoked, Released, BadTable, Absent}
 use Rattle.tight.specs.Told.{told_registry}
 use Rattle.tight.specs.Plain.{publication, observation}
@@ -75,16 +74,16 @@ wrong_queries =
     ∷ [])
     ∷ of "PublicationStore::registry"
     (query good query.registry_copy (0 ∷ told_registry (used_registry good.registry))
-    (slip "the empty registry" (done (empty_registry Unset))
-    ∷ slip "without the domain" (done (used_registry (domain_is Unset good).registry))
+    (slip "the empty registry" (done (empty_registry None))
+    ∷ slip "without the domain" (done (used_registry (domain_is None good).registry))
     ∷ slip "without the leases" (done (used_registry (no_leases good).registry))
     ∷ slip "with a new counter" (done (used_registry (counter_is 0 good).registry))
-    ∷ slip "refuses" (refused Absent (empty_registry Unset))
+    ∷ slip "refuses" (refused Absent (empty_registry None))
     ∷ [])
-    ∷ query left_behind query.registry_copy (9 ∷ told_registry (empty_registry Unset))
+    ∷ query left_behind query.registry_copy (9 ∷ told_registry (empty_registry None))
     (accepted "tests the registry, and not the store" (done (used_registry left_behind.registry))
     ∷ slip "the registry beside a refusal" (refused BadTable (used_registry left_behind.registry))
-    ∷ slip "the domain beside a refusal" (refused BadTable (empty_registry (Number 6)))
+    ∷ slip "the domain beside a refusal" (refused BadTable (empty_registry (Some 6)))
     ∷ [])
     ∷ [])
     ∷ []

@@ -1,7 +1,7 @@
 -- Wrong outcomes of the registry's calls on leases: check_lease_capacity, acquire, acquire_for, leased_slot, release.
 -- After each call stands its right answer: the number, then the values or what stands beside the refusal.
 -- Assumes nothing.
-use Rattle.std.specs.Prelude.{true, false, List, [], ◌∷◌, T}
+use Rattle.std.specs.Prelude.{true, false, List, [], ◌∷◌, T, Some, None}
 use Rattle.lists.specs.Column.{padded}
 use Rattle.rules.specs.Limits.{box}
 use Rattle.rules.specs.Answers.{done}
@@ -11,8 +11,6 @@ use Rattle.rules.specs.SoundTest.{registry_test}
 use Rattle.rules.specs.Calls.{registry_call}
 use Rattle.rules.specs.Probes.{entry, lent}
 use Rattle.rules.specs.Damaged.{viewer, relied_on, publication_is, lease_is, active_is, counter_is}
-use Rattle.rules.specs.declared.Consumer.TheVariants.{Nobody}
-use Rattle.rules.specs.declared.Domain.TheVariants.{Number}
 use Rattle.rules.specs.declared.Refusal.TheVariants.{Unknown, Revoked, Released, Capacity, InvalidState, Absent}
 use Rattle.tight.specs.Plain.{lease, episode}
 use Rattle.tight.specs.RegistryCalls as registry
@@ -41,7 +39,7 @@ wrong_registry_leases =
     (slip "does nothing" does_nothing
     ∷ slip "the counter is not raised" (leaves (within (counter_is 9)))
     ∷ slip "owner 0 in generation 0 for nobody" (leaves (within (lease_is 2 (lent 9 0 (episode 0 0)))))
-    ∷ slip "the lease of another one" (leaves (within (lease_is 2 (lent 9 3 Nobody))))
+    ∷ slip "the lease of another one" (leaves (within (lease_is 2 (lent 9 3 None))))
     ∷ slip "answers the place in the column" (answers (done (lease 2)))
     ∷ [])
     ∷ call slotted (registry.acquire 4) (1 ∷ [])
@@ -53,7 +51,7 @@ wrong_registry_leases =
     ∷ [])
     ∷ of_gap "PublicationRegistry::acquire_for"
     (call slotted (registry.acquire_for 0 5 3) (0 ∷ 9 ∷ [])
-    (slip "no consumer is recorded" (leaves (within (lease_is 2 (lent 9 0 Nobody))))
+    (slip "no consumer is recorded" (leaves (within (lease_is 2 (lent 9 0 None))))
     ∷ slip "owner and generation changed over" (leaves (within (lease_is 2 (lent 9 0 (episode 3 5)))))
     ∷ slip "the generation becomes that of the publication" (leaves (within (lease_is 2 (lent 9 0 (episode 5 0)))))
     ∷ slip "the record is not counted" (leaves (within (active_is 2)))
@@ -81,10 +79,10 @@ wrong_registry_leases =
     (slip "done, and nothing is done" does_nothing
     ∷ slip "drops every lease" (leaves (within no_leases))
     ∷ slip "releases another lease" (gives (done tt) (within (λ c. active_is 1 (lease_is 1 blank_lease c)) slotted))
-    ∷ slip "the record after the released one stays in its place" (leaves (within (λ c. active_is 2 (lease_is 0 blank_lease (lease_is 1 (lent 4 1 Nobody) c)))))
-    ∷ slip "the last place is not blank" (leaves (within (lease_is 1 (lent 4 1 Nobody))))
+    ∷ slip "the record after the released one stays in its place" (leaves (within (λ c. active_is 2 (lease_is 0 blank_lease (lease_is 1 (lent 4 1 None) c)))))
+    ∷ slip "the last place is not blank" (leaves (within (lease_is 1 (lent 4 1 None))))
     ∷ slip "the counter goes back" (leaves (within (counter_is 5)))
-    ∷ slip "the domain comes back as 7" (leaves (within (domain_is (Number 7))))
+    ∷ slip "the domain comes back as 7" (leaves (within (domain_is (Some 7))))
     ∷ slip "the other lease gets a consumer" (leaves (within (lease_is 0 (lent 4 1 viewer))))
     ∷ slip "hides the publication" (leaves (within (publication_is 0 (entry 4 0 7 40 false true))))
     ∷ [])
@@ -93,7 +91,7 @@ wrong_registry_leases =
     -- a damaged table that would be sound without it
     ∷ call doubled (registry.release 2) (9 ∷ [])
     (accepted "does not test the table, and so drops both records" untested
-    ∷ accepted "drops the first record, and so mends the table" (gives (done tt) (within (λ c. active_is 1 (lease_is 0 (lent 2 1 Nobody) (lease_is 1 blank_lease c))) doubled))
+    ∷ accepted "drops the first record, and so mends the table" (gives (done tt) (within (λ c. active_is 1 (lease_is 0 (lent 2 1 None) (lease_is 1 blank_lease c))) doubled))
     ∷ [])
     ∷ [])
     ∷ []

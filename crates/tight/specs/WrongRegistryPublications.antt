@@ -1,7 +1,7 @@
 -- Wrong outcomes of the registry's calls on publications: publish, can_adopt, adopt, revoke, reclaim.
 -- After each call stands its right answer: the number, then the values or what stands beside the refusal.
 -- Assumes nothing.
-use Rattle.std.specs.Prelude.{true, false, ◌&&◌, ◌||◌, List, [], ◌∷◌, T, eqb}
+use Rattle.std.specs.Prelude.{true, false, ◌&&◌, ◌||◌, List, [], ◌∷◌, T, eqb, None}
 use Rattle.lists.specs.Column.{padded}
 use Rattle.lists.specs.Search.{some_pass}
 use Rattle.rules.specs.Limits.{box}
@@ -13,7 +13,6 @@ use Rattle.rules.specs.SoundTest.{registry_test}
 use Rattle.rules.specs.Calls.{registry_call}
 use Rattle.rules.specs.Probes.{entry}
 use Rattle.rules.specs.Damaged.{crowded, publication_is, count_is, counter_is}
-use Rattle.rules.specs.declared.Domain.TheVariants.{Unset}
 use Rattle.rules.specs.declared.Refusal.TheVariants.{Unknown, Revoked, Conflict, Relied, Visible, Released, Capacity, InvalidState, Absent}
 use Rattle.tight.specs.Plain.{publication}
 use Rattle.tight.specs.RegistryCalls as registry
@@ -30,7 +29,7 @@ wrong_registry_publications =
     ∷ slip "answers the slot" (answers (done (publication 44)))
     ∷ slip "the slot is the identifier" (leaves (within (publication_is 4 (entry 5 1 10 4 true true))))
     ∷ slip "out of sight at first" (leaves (within (publication_is 4 (entry 5 1 10 44 false true))))
-    ∷ slip "the domain is forgotten" (leaves (within (domain_is Unset)))
+    ∷ slip "the domain is forgotten" (leaves (within (domain_is None)))
     ∷ [])
     -- on the port of a revoked one; in the slot of a reclaimed one
     ∷ call slotted (registry.publish 5 1 8 44) (0 ∷ 4 ∷ [])

@@ -2,7 +2,7 @@
 -- damaged registry as well.
 -- After each call stands its right answer: the number, then the values or what stands beside the refusal.
 -- Assumes nothing.
-use Rattle.std.specs.Prelude.{false, List, [], ◌∷◌, T}
+use Rattle.std.specs.Prelude.{false, List, [], ◌∷◌, T, Some, None}
 use Rattle.lists.specs.Column.{padded}
 use Rattle.rules.specs.Answers.{done}
 use Rattle.rules.specs.Table.{blank_publication}
@@ -11,8 +11,6 @@ use Rattle.rules.specs.SoundTest.{registry_test}
 use Rattle.rules.specs.Calls.{registry_call}
 use Rattle.rules.specs.Probes.{entry, lent}
 use Rattle.rules.specs.Damaged.{viewer}
-use Rattle.rules.specs.declared.Consumer.TheVariants.{Nobody}
-use Rattle.rules.specs.declared.Domain.TheVariants.{Unset, Number}
 use Rattle.rules.specs.declared.Refusal.TheVariants.{Unknown, Revoked, Released, Absent}
 use Rattle.tight.specs.Plain.{publication}
 use Rattle.tight.specs.RegistryCalls as registry
@@ -23,9 +21,9 @@ use Rattle.tight.specs.Wrong.{Wrong, of, of_gap, call, all_different, two_of_eac
 abbrev pub wrong_registry_queries : List Wrong
 wrong_registry_queries =
     of "PublicationRegistry::domain"
-    (call slotted registry.domain (0 ∷ 1 ∷ 6 ∷ []) (slip "always none" (answers (done Unset)) ∷ slip "comes back as 7" (answers (done (Number 7))) ∷ [])
-    ∷ call (within (domain_is Unset) slotted) registry.domain (0 ∷ 0 ∷ []) (slip "10 for none" (refuses Absent) ∷ slip "0 for none" (answers (done (Number 0))) ∷ [])
-    ∷ call doubled registry.domain (9 ∷ []) (accepted "does not test the table" untested ∷ slip "none instead of 9" (answers (done Unset)) ∷ [])
+    (call slotted registry.domain (0 ∷ 1 ∷ 6 ∷ []) (slip "always none" (answers (done None)) ∷ slip "comes back as 7" (answers (done (Some 7))) ∷ [])
+    ∷ call (within (domain_is None) slotted) registry.domain (0 ∷ 0 ∷ []) (slip "10 for none" (refuses Absent) ∷ slip "0 for none" (answers (done (Some 0))) ∷ [])
+    ∷ call doubled registry.domain (9 ∷ []) (accepted "does not test the table" untested ∷ slip "none instead of 9" (answers (done None)) ∷ [])
     ∷ [])
     ∷ of "PublicationRegistry::publication_records"
     (call slotted registry.publication_records (0 ∷ 4 ∷ [])
@@ -54,14 +52,14 @@ wrong_registry_queries =
     ∷ [])
     ∷ of "PublicationRegistry::lease"
     (call slotted (registry.lease 2) (0 ∷ 2 ∷ 0 ∷ 1 ∷ 5 ∷ 1 ∷ [])
-    (slip "the record of another lease" (answers (done (lent 4 1 Nobody))) ∷ slip "without the consumer" (answers (done (lent 2 0 Nobody))) ∷ [])
+    (slip "the record of another lease" (answers (done (lent 4 1 None))) ∷ slip "without the consumer" (answers (done (lent 2 0 None))) ∷ [])
     ∷ call slotted (registry.lease 3) (10 ∷ [])
     (slip "Released for a released lease" (refuses Released) ∷ slip "the record of a released lease" (answers (done (lent 3 0 viewer))) ∷ [])
     ∷ call slotted (registry.lease 9) (10 ∷ []) (slip "Unknown for a lease never given out" (refuses Unknown) ∷ [])
     -- lease 2 has two records
     ∷ call doubled (registry.lease 2) (9 ∷ [])
     (accepted "the first of two records" untested
-    ∷ accepted "the last of two records, the one without a consumer" (answers (done (lent 2 1 Nobody)))
+    ∷ accepted "the last of two records, the one without a consumer" (answers (done (lent 2 1 None)))
     ∷ accepted "10 instead of 9" (refuses Absent)
     ∷ [])
     ∷ [])

@@ -13,7 +13,7 @@ use Rattle.rules.specs.Responses.{respond}
 use Rattle.rules.specs.declared.Command.{Command}
 use Rattle.blocks.specs.Blocks.{BlockText, block_at}
 use Rattle.blocks.specs.Answers.{answer_text, answers_text}
-use Rattle.blocks.specs.declared.Block.TheVariants.{Got}
+use Rattle.std.specs.Prelude.{Ok}
 use Rattle.blocks.proofs.Blocks.{block_exact, block_shows, block_reads, block_next}
 use Rattle.trace.specs.Run.{Progress, advanced, at_start, run_sound}
 use Rattle.trace.specs.Followed.{Blocks, responses, after, Followed}
@@ -49,11 +49,11 @@ taken s at w rest h e =
     ap (λ (k : ℕ). take k s) (sym n) ∙ ap (take (length (take at s ++ w))) q ∙ take-append_seam (take at s ++ w) rest
 
 module _ (L : Limits) (room : ℕ) (trace : List ℕ) (s : Store) where
-  one_more : (g : Progress Store) → Followed L trace s g × (g.read ≤ length trace) → (c : Command) (next : ℕ) → block_at trace g.read ≡ Got c next
+  one_more : (g : Progress Store) → Followed L trace s g × (g.read ≤ length trace) → (c : Command) (next : ℕ) → block_at trace g.read ≡ Ok (c, next)
       → Followed L trace s (advanced L g c next) × (next ≤ length trace)
   one_more g p c next e =
       let f = p.0 in
-      let m = block_shows trace g.read (Got c next) e in
+      let m = block_shows trace g.read (Ok (c, next)) e in
       let t = m.0 in
       let b : BlockText t.text c = subst (BlockText t.text) m.1 t.form in
       let r : take next trace ≡ take g.read trace ++ t.text = ap (λ (k : ℕ). take k trace) (sym m.2) ∙ taken trace g.read t.text t.rest p.1 t.here in (

@@ -3,6 +3,7 @@ pub mod Running
 pub mod Stops
 pub mod Followed
 pub mod Counting
+pub mod StopNumbers
 pub mod StopLine
 pub mod Reports
 pub mod Build

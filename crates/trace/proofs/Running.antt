@@ -4,11 +4,9 @@ use Prim.Native.Nat.{ℕ, suc, ◌+◌, ◌-◌, ◌≤◌, ◌<◌}
 use mathlib.Core.Path.{◌≡◌, refl, sym, ap, subst, ◌∙◌}
 use mathlib.Core.Bool.{Bool, true, false}
 use mathlib.Core.List.{List, [], ◌++◌}
-use mathlib.Core.Logic.{◌⊎◌, ⊎_elim}
 use native.Mathlib.Omega.{arith}
 use lib.ListN.{length, length-append}
 use Rattle.rules.specs.Limits.{box}
-use Rattle.rules.specs.Refusals.{bad_line, no_room}
 use Rattle.rules.specs.Table.{Store}
 use Rattle.rules.specs.Columns.{used, filled}
 use Rattle.rules.specs.Sound.{StoreSound, StoreColumnsSound}
@@ -21,30 +19,36 @@ use Rattle.rules.proofs.KeepsStore.{step_sound}
 use Rattle.store.specs.Columns.{columns_of, store_of}
 use Rattle.store.specs.Answers.{applied_inside}
 use Rattle.store.specs.declared.PublicationStore.{PublicationStore}
-use Rattle.store.specs.declared.Applied.{Applied}
+use Rattle.rules.specs.declared.Answered.{Answered}
+use Rattle.rules.specs.declared.Response.{Response}
+use Rattle.std.specs.Prelude.{Ok, Err}
 use Rattle.blocks.specs.Blocks.{block_at}
 use Rattle.blocks.specs.Answers.{answer_text}
-use Rattle.blocks.specs.declared.Block.{Block}
-use Rattle.blocks.specs.declared.Block.TheVariants.{Unfinished, Wrong, Got}
+use Rattle.text.specs.Reading.{Reading}
+use Rattle.text.specs.declared.Misread.{Misread}
+use Rattle.text.specs.declared.Misread.TheVariants.{Unfinished, Wrong}
+use mathlib.Core.Logic.{◌⊎◌, ⊎_elim}
 use Rattle.blocks.proofs.Blocks.{block_next}
 use Rattle.blocks.proofs.Answers.{answer_fits}
 use Rattle.writing.specs.Written.{over, over_from}
 use Rattle.writing.proofs.Written.{over_after, over_length}
 use Rattle.trace.specs.Run.{Progress, Ran, answer_room, stopped, run_from, run_sound, laid, run}
 use Rattle.trace.specs.Stops.{NoBlock}
-use Rattle.trace.specs.Embedding.{ComesTo, Counts}
+use Rattle.trace.specs.Embedding.{stop_number, ComesTo, Counts}
+use Rattle.trace.specs.declared.Stop.{Stop}
+use Rattle.trace.specs.declared.Stop.TheVariants.{End, BadTable, BadLine, NoRoom}
 use Rattle.trace.specs.declared.Stopped.{Stopped}
 use Rattle.trace.proofs.Counting.{over_counts}
 use Rattle.trace.proofs.Stops.{within}
-use Rattle.trace.proofs.Turns.{run_when, run_unless, Ready, ends, fills, breaks, goes_on, none_unfinished, none_wrong}
+use Rattle.trace.proofs.Turns.{run_when, run_unless, Ready, ends, fills, breaks, goes_on, none_read}
 
 -- the blocks so far
 abbrev so_far : PublicationStore → ℕ → ℕ → List ℕ → Progress Store
 so_far left blocks i text = record { table = used (columns_of left); blocks = blocks; read = i; text = text }
 
 -- a block that is unfinished or wrong
-none_of_both : (trace : List ℕ) (i : ℕ) (b : Block) → b ≡ block_at trace i → (b ≡ Unfinished) ⊎ (b ≡ Wrong) → NoBlock trace i
-none_of_both trace i b e t = ⊎_elim (λ p. none_unfinished trace i (sym e ∙ p)) (λ p. none_wrong trace i (sym e ∙ p)) t
+pub none_of_both : (trace : List ℕ) (i : ℕ) (b : Reading Command) → b ≡ block_at trace i → (b ≡ Err Unfinished) ⊎ (b ≡ Err Wrong) → NoBlock trace i
+none_of_both trace i b e t = ⊎_elim (λ p. none_read trace i Unfinished (sym e ∙ p)) (λ p. none_read trace i Wrong (sym e ∙ p)) t
 
 -- left, blocks, i and at are the loop's locals; store and out₀ came in
 pub record Running (trace out₀ : List ℕ) (room : ℕ) (store : PublicationStore) (out : List ℕ) (left : PublicationStore) (blocks i at : ℕ) : Type 0 where
@@ -84,17 +88,17 @@ module _ {trace out₀ : List ℕ} {room : ℕ} {store : PublicationStore} {out 
   g = so_far left blocks i k.text
 
   -- a stop answers what the loop has
-  abbrev StopsWith : ℕ → Type 0
-  StopsWith n = ComesTo (laid box whole) (record { store = left; stop = n; blocks = blocks; read = i; written = at }) out₀ out
+  abbrev StopsWith : Stop → Type 0
+  StopsWith x = ComesTo (laid box whole) (record { store = left; stop = x; blocks = blocks; read = i; written = at }) out₀ out
 
-  stops : (n : ℕ) → whole ≡ stopped n g → StopsWith n
-  stops n e =
+  stops : (x : Stop) → whole ≡ stopped (stop_number x) g → StopsWith x
+  stops x e =
       let l : left ≡ store_of (filled box (used (columns_of left))) = ap store_of (sym k.sound.s6) in
-      subst (λ (r : Ran Store). ComesTo (laid box r) (record { store = left; stop = n; blocks = blocks; read = i; written = at }) out₀ out) (sym e)
-      (rw (← l, k.place), k.here)
+      subst (λ (r : Ran Store). ComesTo (laid box r) (record { store = left; stop = x; blocks = blocks; read = i; written = at }) out₀ out) (sym e)
+      (record { store = l; stop = refl; blocks = refl; read = refl; written = k.place }, k.here)
 
-  pub run_ends : length trace ≤ i → StopsWith 0
-  run_ends h = stops 0 (k.rest ∙ ends box room trace (length trace - blocks) g h)
+  pub run_ends : length trace ≤ i → StopsWith End
+  run_ends h = stops End (k.rest ∙ ends box room trace (length trace - blocks) g h)
 
   module _ (h : i < length trace) where
     -- the bound on the blocks after this one
@@ -104,17 +108,17 @@ module _ {trace out₀ : List ℕ} {room : ℕ} {store : PublicationStore} {out 
     turns : whole ≡ run_from box room trace (suc fewer) g
     turns = let e : length trace - blocks ≡ suc fewer = omega (arith, k.passed) in rw e at k.rest
 
-    pub run_fills : room - at < answer_room → StopsWith no_room
-    run_fills l = stops no_room (turns ∙ fills box room trace fewer g h (omega (arith, k.place)))
+    pub run_fills : room - at < answer_room → StopsWith NoRoom
+    run_fills l = stops NoRoom (turns ∙ fills box room trace fewer g h (omega (arith, k.place)))
 
     module _ (l : answer_room ≤ room - at) where
       ready : Ready box room trace g
       ready = record { more = h; spare = omega (arith, k.place) }
 
-      pub run_breaks : (b : Block) → b ≡ block_at trace i → (b ≡ Unfinished) ⊎ (b ≡ Wrong) → StopsWith bad_line
-      run_breaks b e t = stops bad_line (turns ∙ breaks box room trace fewer g ready (none_of_both trace i b e t))
+      pub run_breaks : (x : Misread) → block_at trace i ≡ Err x → StopsWith BadLine
+      run_breaks x e = stops BadLine (turns ∙ breaks box room trace fewer g ready (none_read trace i x e))
 
-      module _ (c : Command) (next : ℕ) (e : block_at trace i ≡ Got c next) where
+      module _ (c : Command) (next : ℕ) (e : block_at trace i ≡ Ok (c, next)) where
         abbrev after : Store
         after = (step box (used (columns_of left)) c).table
 
@@ -144,9 +148,9 @@ module _ {trace out₀ : List ℕ} {room : ℕ} {store : PublicationStore} {out 
               long = ap length z ∙ over_length (k.text ++ answer) out₀ (omega arith);
             }
 
-        pub run_goes_on : (a : Applied) → a ≡ applied_inside (used (columns_of left)) c
-            → (out' : List ℕ) (at' : ℕ) → at' ≡ at + length (answer_text a.response) → out' ≡ over_from at (answer_text a.response) out
-            → Running trace out₀ room store out' a.store (blocks + 1) next at'
+        pub run_goes_on : (a : Answered Response PublicationStore) → a ≡ applied_inside (used (columns_of left)) c
+            → (out' : List ℕ) (at' : ℕ) → at' ≡ at + length (answer_text a.answer) → out' ≡ over_from at (answer_text a.answer) out
+            → Running trace out₀ room store out' a.table (blocks + 1) next at'
         run_goes_on a q out' at' p o = rw q (turned out' at' (rw q at p) (rw q at o))
 
 -- the test of the store goes first
@@ -158,11 +162,13 @@ module _ (room : ℕ) (trace out₀ : List ℕ) (store : PublicationStore) {b : 
   met : room ≤ length out₀ → (r : Stopped) (out : List ℕ) → ComesTo (run box room trace (columns_of store)) r out₀ out → Met r out
   met h r out t =
       let f = (within box room trace (columns_of store)).written in
-      (t, rw t.0 (over_counts (run box room trace (columns_of store)).done.text out₀ out t.1 (omega arith)))
+      (t, rw t.0.written (over_counts (run box room trace (columns_of store)).done.text out₀ out t.1 (omega arith)))
 
   pub told_when : room ≤ length out₀ → b ≡ true → (r : Stopped) (out : List ℕ) → ComesTo (laid box (run_sound box room trace (used (columns_of store)))) r out₀ out
       → Met r out
   told_when h q r out t = met h r out (rw (run_when box room trace (columns_of store) e q) t)
 
-  pub told_unless : room ≤ length out₀ → b ≡ false → Met (record { store = store; stop = 9; blocks = 0; read = 0; written = 0 }) out₀
-  told_unless h q = met h (record { store = store; stop = 9; blocks = 0; read = 0; written = 0 }) out₀ (rw (run_unless box room trace (columns_of store) e q) (refl, refl))
+  pub told_unless : room ≤ length out₀ → b ≡ false → Met (record { store = store; stop = BadTable; blocks = 0; read = 0; written = 0 }) out₀
+  told_unless h q =
+      met h (record { store = store; stop = BadTable; blocks = 0; read = 0; written = 0 }) out₀
+      (rw (run_unless box room trace (columns_of store) e q) (record { store = refl; stop = refl; blocks = refl; read = refl; written = refl }, refl))

@@ -4,7 +4,7 @@ use Prim.Native.Nat.{ℕ, ◌+◌, ◌-◌, ◌≤◌, ◌<◌}
 use mathlib.Core.Path.{◌≡◌, ◌∙◌}
 use mathlib.Core.List.{List, [], ◌∷◌, ◌++◌, append_assoc}
 use native.Mathlib.Omega.{arith}
-use lib.ListN.{length, take, drop, set, length-append, length-set}
+use lib.ListN.{length, take, drop, set, length-append}
 use borrow.Rule.Slice.PartMut.{put_mid}
 use Rattle.lists.specs.Letters.{letters}
 use Rattle.rules.specs.Refusals.{name_of}
@@ -99,6 +99,3 @@ module _ (n : ℕ) (out : List ℕ) (room : line_room ≤ length out) {x₁ : Li
 
       pub line_put : (a + b + 1 + e + 1 ≡ length (stop_line n)) × (set x₄ (a + b + 1 + e) line_feed ≡ over (stop_line n) out)
       line_put = rw (← pieces) (line_held.place, line_held.text)
-
-      pub line_long : length (set x₄ (a + b + 1 + e) line_feed) ≡ length out
-      line_long = length-set x₄ (a + b + 1 + e) line_feed ∙ name_long

@@ -16,18 +16,17 @@ use Rattle.rules.specs.Table.{Store}
 use Rattle.rules.specs.Columns.{StoreColumns, used}
 use Rattle.rules.specs.SoundTest.{store_test}
 use Rattle.rules.specs.declared.Command.{Command}
+use Rattle.std.specs.Prelude.{Ok, Err}
+use Rattle.text.specs.Reading.{Reading}
 use Rattle.blocks.specs.Blocks.{block_at}
-use Rattle.blocks.specs.declared.Block.{Block}
-use Rattle.blocks.specs.declared.Block.TheVariants.{Unfinished, Wrong, Got}
+use Rattle.text.specs.declared.Misread.{Misread}
 use Rattle.blocks.proofs.Blocks.{block_next}
 use Rattle.trace.specs.Run.{Progress, Ran, answer_room, stopped, advanced, on_block, run_from, at_start, run_sound, laid, run}
 use Rattle.trace.specs.Stops.{NoBlock}
 
-pub none_unfinished : (trace : List ℕ) (i : ℕ) → block_at trace i ≡ Unfinished → NoBlock trace i
-none_unfinished trace i e c next q = let z : ◌≡◌ {A = ℕ} 0 1 = cc in omega arith
-
-pub none_wrong : (trace : List ℕ) (i : ℕ) → block_at trace i ≡ Wrong → NoBlock trace i
-none_wrong trace i e c next q = let z : ◌≡◌ {A = ℕ} 0 1 = cc in omega arith
+-- where nothing is read, no block stands
+pub none_read : (trace : List ℕ) (i : ℕ) (x : Misread) → block_at trace i ≡ Err x → NoBlock trace i
+none_read trace i x e c next q = let z : ◌≡◌ {A = ℕ} 0 1 = cc in omega arith
 
 pub reaches : (a b : ℕ) → (a ≤ b) ⊎ (b < a)
 reaches a b = ⊎_elim (λ e. inl (leb-true a b e)) (λ e. inr (leb-false a b e)) (true_or_false (leb a b))
@@ -70,13 +69,12 @@ module _ (L : Limits) (room : ℕ) (trace : List ℕ) where
     pub breaks : NoBlock trace g.read → run_from L room trace (suc n) g ≡ stopped bad_line g
     breaks f = turn ∙ halts (block_at trace g.read) f
       where
-        halts : (b : Block) → ((c : Command) (next : ℕ) → b ≡ Got c next → ⊥)
+        halts : (b : Reading Command) → ((c : Command) (next : ℕ) → b ≡ Ok (c, next) → ⊥)
             → on_block b (λ c next. run_from L room trace n (advanced L g c next)) (stopped bad_line g) ≡ stopped bad_line g
-        halts Unfinished f = refl
-        halts Wrong f = refl
-        halts (Got c next) f = absurd (f c next refl)
+        halts (Err x) f = refl
+        halts (Ok (c, next)) f = absurd (f c next refl)
 
-    pub goes_on : (c : Command) (next : ℕ) → block_at trace g.read ≡ Got c next
+    pub goes_on : (c : Command) (next : ℕ) → block_at trace g.read ≡ Ok (c, next)
         → run_from L room trace (suc n) g ≡ run_from L room trace n (advanced L g c next)
     goes_on c next e = turn ∙ rw e
 
@@ -85,9 +83,9 @@ module _ (L : Limits) (room : ℕ) (trace : List ℕ) where
       (at_end : (g : Progress Store) → P g → length trace ≤ g.read → Q (stopped 0 g))
       (when-full : (g : Progress Store) → P g → g.read < length trace → room - length g.text < answer_room → Q (stopped no_room g))
       (when-broken : (g : Progress Store) → P g → Ready g → NoBlock trace g.read → Q (stopped bad_line g))
-      (at_block : (g : Progress Store) → P g → Ready g → (c : Command) (next : ℕ) → block_at trace g.read ≡ Got c next → P (advanced L g c next)) where
+      (at_block : (g : Progress Store) → P g → Ready g → (c : Command) (next : ℕ) → block_at trace g.read ≡ Ok (c, next) → P (advanced L g c next)) where
     one_turn : (n : ℕ) (g : Progress Store) → P g
-        → ((c : Command) (next : ℕ) → block_at trace g.read ≡ Got c next → P (advanced L g c next) → Q (run_from L room trace n (advanced L g c next)))
+        → ((c : Command) (next : ℕ) → block_at trace g.read ≡ Ok (c, next) → P (advanced L g c next) → Q (run_from L room trace n (advanced L g c next)))
         → Q (run_from L room trace (suc n) g)
     one_turn n g p later =
         ⊎_elim
@@ -102,10 +100,9 @@ module _ (L : Limits) (room : ℕ) (trace : List ℕ) where
         broken : Ready g → NoBlock trace g.read → Q (run_from L room trace (suc n) g)
         broken k f = rw (breaks n g k f) (when-broken g p k f)
 
-        ready : Ready g → (b : Block) → block_at trace g.read ≡ b → Q (run_from L room trace (suc n) g)
-        ready k Unfinished e = broken k (none_unfinished trace g.read e)
-        ready k Wrong e = broken k (none_wrong trace g.read e)
-        ready k (Got c next) e = rw (goes_on n g k c next e) (later c next e (at_block g p k c next e))
+        ready : Ready g → (b : Reading Command) → block_at trace g.read ≡ b → Q (run_from L room trace (suc n) g)
+        ready k (Err x) e = broken k (none_read trace g.read x e)
+        ready k (Ok (c, next)) e = rw (goes_on n g k c next e) (later c next e (at_block g p k c next e))
 
     pub comes_to : (n : ℕ) (g : Progress Store) → length trace ≤ g.read + n → P g → Q (run_from L room trace n g)
     comes_to zero g b p = rw (ends zero g (omega arith)) (at_end g p (omega arith))

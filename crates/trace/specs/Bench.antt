@@ -15,7 +15,7 @@ use Rattle.text.specs.Ops.{row_at, first_row, op_at}
 use Rattle.text.specs.Keys.{key_text, key_limit}
 use Rattle.text.specs.Lines.{line_at, key_line_at, line_text}
 use Rattle.blocks.specs.Fields.{field_at, fields_at}
-use Rattle.blocks.specs.Blocks.{command_of, block_at}
+use Rattle.blocks.specs.Blocks.{command_of, lines_at, block_at}
 use Rattle.blocks.specs.Answers.{answer_text}
 use Rattle.blocks.specs.Cases.{lines, whole_input, whole_output}
 use Rattle.trace.specs.Run.{Ran, run_from, run_sound}
@@ -92,12 +92,12 @@ bench =
 
 -- each run comes to what it must
 pub bench_holds : map (λ x. course x.trial) bench ≡ map (λ x. x.must) bench
-unfolding run_sound run_from block_at command_of fields_at field_at op_at first_row row_at word_at compared key_line_at line_at value_at scan key_text key_limit step respond answer_text line_text digits digits_in
+unfolding run_sound run_from block_at lines_at command_of fields_at field_at op_at first_row row_at word_at compared key_line_at line_at value_at scan key_text key_limit step respond answer_text line_text digits digits_in
 bench_holds = refl
 
 -- the report of the whole case
 pub whole_report : report box 65600 whole_input ≡ record { stop = 0; text = whole_output ++ lines ("stop=0 Done" ∷ []) }
-unfolding report report_of stop_line name_of run_sound run_from block_at command_of fields_at field_at op_at first_row row_at word_at compared key_line_at line_at value_at scan key_text key_limit step respond answer_text line_text digits digits_in
+unfolding report report_of stop_line name_of run_sound run_from block_at lines_at command_of fields_at field_at op_at first_row row_at word_at compared key_line_at line_at value_at scan key_text key_limit step respond answer_text line_text digits digits_in
 whole_report = refl
 
 -- the last line for each number with which a report can stop, and for one that has no name

@@ -1,11 +1,10 @@
 -- The printed report of a trace: the answers of a run from an empty store, and a last line that says why it stopped.
 -- Assumes nothing.
-use Rattle.std.specs.Prelude.{ℕ, ◌+◌, cond, List, [], ◌∷◌, ◌++◌, ltb, length}
+use Rattle.std.specs.Prelude.{ℕ, ◌+◌, cond, List, [], ◌∷◌, ◌++◌, ltb, length, None}
 use Rattle.lists.specs.Letters.{letters}
 use Rattle.rules.specs.Limits.{Limits}
 use Rattle.rules.specs.Refusals.{refusal_number, no_room, name_of}
 use Rattle.rules.specs.Table.{Store, empty_store}
-use Rattle.rules.specs.declared.Domain.TheVariants.{Unset}
 use Rattle.rules.specs.declared.Refusal.TheVariants.{Capacity}
 use Rattle.text.specs.Decimal.{line_feed}
 use Rattle.text.specs.Digits.{digits}
@@ -33,7 +32,7 @@ pub record Report : Type 0 where
 
 -- a run from an empty store without domain
 abbrev pub empty_run : Limits → List ℕ → Ran Store
-empty_run L trace = run_sound L report_room trace (empty_store Unset)
+empty_run L trace = run_sound L report_room trace (empty_store None)
 
 abbrev pub told : Ran Store → Report
 told r = record { stop = r.stop; text = r.done.text ++ stop_line r.stop }

@@ -1,6 +1,6 @@
 -- The run of a trace: what stops it before a block, what a block changes, and what it comes to.
 -- Assumes nothing.
-use Rattle.std.specs.Prelude.{ℕ, zero, suc, ◌+◌, ◌-◌, cond, List, [], ◌++◌, ltb, leb, length}
+use Rattle.std.specs.Prelude.{ℕ, zero, suc, ◌+◌, ◌-◌, cond, List, [], ◌++◌, ltb, leb, length, Ok, Err}
 use Rattle.rules.specs.Limits.{Limits}
 use Rattle.rules.specs.Refusals.{refusal_number, bad_line, no_room}
 use Rattle.rules.specs.Table.{Store}
@@ -10,10 +10,9 @@ use Rattle.rules.specs.SoundTest.{store_test}
 use Rattle.rules.specs.Responses.{respond}
 use Rattle.rules.specs.declared.Command.{Command}
 use Rattle.rules.specs.declared.Refusal.TheVariants.{BadTable}
+use Rattle.text.specs.Reading.{Reading}
 use Rattle.blocks.specs.Blocks.{block_at}
 use Rattle.blocks.specs.Answers.{answer_text}
-use Rattle.blocks.specs.declared.Block.{Block}
-use Rattle.blocks.specs.declared.Block.TheVariants.{Unfinished, Wrong, Got}
 
 -- the room that must be left before a block; no answer is longer
 abbrev pub answer_room : ℕ
@@ -44,10 +43,9 @@ advanced L g c next =
       text = g.text ++ answer_text (respond L g.table c);
     }
 
-abbrev pub on_block : {A : Type 0} → Block → (Command → ℕ → A) → A → A
-on_block Unfinished go halt = halt
-on_block Wrong go halt = halt
-on_block (Got c next) go halt = go c next
+abbrev pub on_block : {A : Type 0} → Reading Command → (Command → ℕ → A) → A → A
+on_block (Err e) go halt = halt
+on_block (Ok (c, next)) go halt = go c next
 
 -- before each block: the end of the input stops with 0, else too little room with 12, else a wrong or unfinished block with 11.
 -- n bounds the blocks that are left.

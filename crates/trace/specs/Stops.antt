@@ -1,17 +1,16 @@
 -- Why a run stopped. Every run of every trace on every table into every room comes to one of these.
 -- Assumes nothing.
-use Rattle.std.specs.Prelude.{ℕ, ◌-◌, ◌≤◌, ◌<◌, ◌≡◌, true, false, List, length}
+use Rattle.std.specs.Prelude.{ℕ, ◌-◌, ◌≤◌, ◌<◌, ◌≡◌, true, false, List, length, Ok}
 use Rattle.rules.specs.Limits.{Limits}
 use Rattle.rules.specs.Columns.{StoreColumns}
 use Rattle.rules.specs.SoundTest.{store_test}
 use Rattle.rules.specs.declared.Command.{Command}
 use Rattle.blocks.specs.Blocks.{block_at}
-use Rattle.blocks.specs.declared.Block.TheVariants.{Got}
 use Rattle.trace.specs.Run.{Ran, answer_room, stopped, at_start}
 
 -- no command's block stands at the place
 abbrev pub NoBlock : List ℕ → ℕ → Type 0
-NoBlock trace at = (c : Command) (next : ℕ) → block_at trace at ≡ Got c next → ⊥
+NoBlock trace at = (c : Command) (next : ℕ) → block_at trace at ≡ Ok (c, next) → ⊥
 
 module _ (L : Limits) (room : ℕ) (trace : List ℕ) (t : StoreColumns) where
   pub data Why (r : Ran StoreColumns) : Type 0 where

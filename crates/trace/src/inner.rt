@@ -1,59 +1,57 @@
-// The run on a sound store, and a report's last line. These are no entry points: soundness and room are for the caller to see to.
+// The run on a sound store, and a report's last line. These are no entry points: the room is for the caller to see to.
 ghost use Rattle.std.specs.Prelude.{◌≡◌, ◌+◌, ◌≤◌, length};
 ghost use Rattle.rules.specs.Limits.{box};
 ghost use Rattle.rules.specs.Columns.{used};
-ghost use Rattle.rules.specs.Sound.{StoreColumnsSound};
 ghost use Rattle.store.specs.Columns.{columns_of};
 ghost use Rattle.writing.specs.Written.{over, over_from};
 ghost use Rattle.trace.specs.Run.{laid, run_sound};
 ghost use Rattle.trace.specs.Report.{line_room, stop_line};
 ghost use Rattle.trace.specs.Embedding.{ComesTo};
 
-use crate::Stopped;
+use crate::{Stop, Stopped};
+use blocks::block_at;
 use blocks::inner::put_response_at;
-use blocks::{Block, block_at};
 use store::PublicationStore;
+use store::inner::Sound;
+use store::inner::any::apply;
 use writing::inner::{put, put_name, put_number};
 
-// Block after block, with the first `room` bytes of the output for the answers. The store stays sound, so no command tests it again.
-pub fn run(store: PublicationStore, trace: &[u8], out: &mut [u8], room: usize) -> Stopped
-    requires { StoreColumnsSound box (columns_of store) × (room ≤ length out.old) }
-    ensures { ComesTo (laid box (run_sound box room trace.now (used (columns_of store)))) result out.old out.new }
+// Block after block, with all of the output for the answers. A turn moves by a whole block, so no index is counted here. The store stays sound, so no command tests it again.
+pub fn run(sound: Sound, trace: &[u8], out: &mut [u8]) -> Stopped
+    ensures { ComesTo (laid box (run_sound box (length out.old) trace.now (used (columns_of sound.store)))) result out.old out.new }
 {
-    let mut left = store;
+    let mut left = sound;
     let mut blocks: u64 = 0;
     let mut i: usize = 0;
     let mut at: usize = 0;
     while i < trace.len() {
-        if room - at < 96 {
-            return stopped(left, 12, blocks, i, at);
+        if out.len() - at < 96 {
+            return stopped(left.store, Stop::NoRoom, blocks, i, at);
         }
-        match block_at(trace, i) {
-            Block::Unfinished | Block::Wrong => return stopped(left, 11, blocks, i, at),
-            Block::Got(command, next) => {
-                let a = store::inner::any::apply(left, command);
-                let s = a.store;
-                let r = a.response;
-                at = put_response_at(out, at, r);
-                left = s;
-                i = next;
-                blocks += 1;
-            }
-        }
+        let Ok((command, next)) = block_at(trace, i) else {
+            return stopped(left.store, Stop::BadLine, blocks, i, at);
+        };
+        let applied = apply(left, command);
+        at = put_response_at(out, at, applied.answer);
+        left = Sound {
+            store: applied.table,
+        };
+        i = next;
+        blocks += 1;
     }
-    stopped(left, 0, blocks, i, at)
+    stopped(left.store, Stop::End, blocks, i, at)
 }
 
 // Where the run stands when it stops.
-fn stopped(store: PublicationStore, stop: u64, blocks: u64, read: usize, written: usize) -> Stopped
+fn stopped(store: PublicationStore, stop: Stop, blocks: u64, read: usize, written: usize) -> Stopped
     ensures { result ≡ record { store = store; stop = stop; blocks = blocks; read = read; written = written } }
 {
     Stopped {
-        store: store,
-        stop: stop,
-        blocks: blocks,
-        read: read,
-        written: written,
+        store,
+        stop,
+        blocks,
+        read,
+        written,
     }
 }
 
@@ -73,7 +71,7 @@ pub fn put_stop_line(out: &mut [u8], n: u64) -> usize
     f + 1
 }
 
-// The same from the place at on: the output's remaining part is lent to the line's writer. Answers the place after the line.
+// The same from the place at on: the output's remaining part is lent to the line's writer, as docs/DECISIONS.md fixes it. Answers the place after the line.
 pub fn put_stop_line_at(out: &mut [u8], at: usize, n: u64) -> usize
     requires { at + line_room ≤ length out.old }
     ensures { (result ≡ at + length (stop_line n)) × (out.new ≡ over_from at (stop_line n) out.old) }

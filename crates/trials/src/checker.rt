@@ -2,381 +2,343 @@
 //
 // For each demand it says which answer was due: the answer itself where the demand leaves it free. What demand 3 asks follows from the
 // history of answers alone: crates/rules/specs/Demand3.antt and History.antt have the words.
-use crate::traces::{
-    ACQUIRE, ADOPT, Asked, COUNT, HANDLE, NUMBER, OBSERVE, OBSERVED, PUBLISH, READ, RECLAIM,
-    REFUSED, RELEASE, REPLACE, RESOLVE, RETURNED, REVOKE, Told, form_of,
-};
+ghost use Rattle.std.specs.Prelude.{◌≡◌};
+ghost use Rattle.trials.specs.declared.checker.Demand.TheVariants.{Document};
 
-// What the answers tell of a publication.
+use rules::{Command, LeaseId, Observation, PublicationId, Refusal, Response};
+use std::fmt;
+
+// A demand, by its number.
 #[derive(Clone, Copy)]
-pub struct Page {
-    // Published, and not reclaimed.
-    pub stands: bool,
+pub enum Demand {
+    // An answer of the command's kind; a refusal is one of the command's row, and gives the offered handle back.
+    Kind = 1,
+    // The answer that document 01 fixes.
+    Document = 2,
+    // The answer that the history of answers asks for.
+    History = 3,
+}
+
+impl fmt::Display for Demand {
+    fn fmt<W: fmt::Write>(&self, f: &mut fmt::Formatter<W>) -> fmt::Result {
+        write!(f, "{}", *self as u64)
+    }
+}
+
+// What the answers tell of a publication that was published, and not reclaimed.
+#[derive(Clone, Copy)]
+struct Page {
     // The handle that it accepted last, and how often it was replaced.
-    pub handle: u64,
-    pub replaced: u64,
+    handle: u64,
+    replaced: u64,
     // Leases given out and not released.
-    pub out: u64,
-    // When it was revoked last (0: not while it stood), and how many of the leases outstanding then are not released yet.
-    pub revoked: u64,
-    pub awaited: u64,
+    out: u64,
+    // Its last revoke.
+    revoked: Option<Revoked>,
 }
 
-// A lease given out and not released: one more than its publication's identifier (0: none), and when it was given out.
+// When a publication was revoked, and how many of the leases outstanding then are not released yet.
 #[derive(Clone, Copy)]
-pub struct Loan {
-    pub of: u64,
-    pub since: u64,
+struct Revoked {
+    at: u64,
+    awaited: u64,
 }
 
-// The handles accepted and not handed back, each as often as that, are the first of the bag. There is room for all that the traces give
-// out; an identifier beyond it is not noted, and demand 2 finds it.
+// A lease given out and not released: of which publication, and when it was given out.
+#[derive(Clone, Copy)]
+struct Loan {
+    of: PublicationId,
+    since: u64,
+}
+
+// What the answers tell: each publication's page, each lease, and the handles accepted and not handed back, each as often as that. There is
+// room for all that the traces give out; an identifier beyond it is not noted, and the document's answer finds it.
 #[derive(Clone, Copy)]
 pub struct History {
-    pub pages: [Page; 96],
-    pub loans: [Loan; 160],
-    pub bag: [u64; 128],
-    pub held: usize,
-    pub time: u64,
+    pages: [Option<Page>; 96],
+    loans: [Option<Loan>; 160],
+    bag: [Option<u64>; 128],
+    time: u64,
 }
 
-// Before the first command.
-pub(crate) fn start() -> History {
-    let page = blank();
-    let loan = Loan { of: 0, since: 0 };
-    let pages = [page; 96];
-    let loans = [loan; 160];
-    let bag = [0; 128];
-    History {
-        pages: pages,
-        loans: loans,
-        bag: bag,
-        held: 0,
-        time: 1,
-    }
-}
-
-fn blank() -> Page {
-    Page {
-        stands: false,
-        handle: 0,
-        replaced: 0,
-        out: 0,
-        revoked: 0,
-        awaited: 0,
+// The answer that a demand asks for.
+pub(crate) fn due(
+    demand: Demand,
+    history: &History,
+    asked: Command,
+    answer: Response,
+    fixed: Response,
+) -> Response
+    ensures { demand ≡ Document → result ≡ fixed }
+{
+    match demand {
+        Demand::Kind => of_kind(asked, answer, fixed),
+        Demand::Document => fixed,
+        Demand::History => history.due(asked, answer),
     }
 }
 
-pub(crate) fn same(s: Told, t: Told) -> bool {
-    if s.form != t.form {
-        return false;
-    }
-    if s.number != t.number {
-        return false;
-    }
-    if s.x != t.x {
-        return false;
-    }
-    if s.y != t.y {
-        return false;
-    }
-    s.z == t.z
-}
-
-// Whether a refusal's number is one of a row's, or 9, which stands before every row.
-fn one_of(n: u64, a: u64, b: u64, c: u64, d: u64) -> bool {
-    if n == 9 {
-        return true;
-    }
-    if n == a {
-        return true;
-    }
-    if n == b {
-        return true;
-    }
-    if n == c {
-        return true;
-    }
-    n == d
-}
-
-// The refusals of each command's row, in document 01's order.
-fn in_row(op: u64, n: u64) -> bool {
-    match op {
-        PUBLISH => one_of(n, 7, 3, 0, 0),
-        ADOPT => one_of(n, 1, 6, 8, 4),
-        ACQUIRE => one_of(n, 1, 2, 7, 0),
-        RELEASE => one_of(n, 1, 6, 0, 0),
-        REVOKE => one_of(n, 1, 0, 0, 0),
-        REPLACE => one_of(n, 1, 8, 2, 7),
-        RECLAIM => one_of(n, 1, 5, 6, 4),
-        READ => one_of(n, 1, 6, 0, 0),
-        OBSERVE => one_of(n, 10, 0, 0, 0),
-        RESOLVE => one_of(n, 10, 0, 0, 0),
-        _ => one_of(n, 0, 0, 0, 0),
+// The refusals of each command's row, in document 01's order. BadTable stands before every row.
+fn refusals(asked: Command) -> &'static [Refusal] {
+    match asked {
+        Command::Publish { .. } => &[Refusal::Capacity, Refusal::Conflict],
+        Command::Adopt { .. } => &[
+            Refusal::Unknown,
+            Refusal::Released,
+            Refusal::InvalidState,
+            Refusal::Relied,
+        ],
+        Command::Acquire { .. } => &[Refusal::Unknown, Refusal::Revoked, Refusal::Capacity],
+        Command::Release { .. } => &[Refusal::Unknown, Refusal::Released],
+        Command::Revoke { .. } => &[Refusal::Unknown],
+        Command::Replace { .. } => &[
+            Refusal::Unknown,
+            Refusal::InvalidState,
+            Refusal::Revoked,
+            Refusal::Capacity,
+        ],
+        Command::Reclaim { .. } => &[
+            Refusal::Unknown,
+            Refusal::Visible,
+            Refusal::Released,
+            Refusal::Relied,
+        ],
+        Command::Read { .. } => &[Refusal::Unknown, Refusal::Released],
+        Command::Observe { .. } => &[Refusal::Absent],
+        Command::Resolve { .. } => &[Refusal::Absent],
+        Command::Count => &[],
     }
 }
 
-// Demand 1: an answer of the command's kind; a refusal has a number of the command's row, and gives the offered handle back. That it changed
-// no record shows in later answers: demand 2 finds it.
-fn first(q: Asked, t: Told, fixed: Told) -> Told {
-    if t.form != form_of(q.op, t.number) {
-        return fixed;
-    }
-    if t.number == 0 {
-        return t;
-    }
-    if in_row(q.op, t.number) {
-        if t.form == RETURNED {
-            return Told {
-                form: RETURNED,
-                number: t.number,
-                x: q.d,
-                y: 0,
-                z: 0,
-            };
+fn is_in_row(asked: Command, why: Refusal) -> bool {
+    why == Refusal::BadTable || refusals(asked).contains(&why)
+}
+
+// Whether an answer is of the kind that a command gets when it is carried out.
+fn is_carried_out(asked: Command, answer: Response) -> bool {
+    match asked {
+        Command::Publish { .. } | Command::Resolve { .. } => matches!(answer, Response::Id(_)),
+        Command::Adopt { .. } | Command::Release { .. } | Command::Revoke { .. } => {
+            matches!(answer, Response::Done)
         }
-        return t;
+        Command::Acquire { .. } => matches!(answer, Response::Lease(_)),
+        Command::Replace { .. } | Command::Reclaim { .. } => matches!(answer, Response::Handle(_)),
+        Command::Read { .. } => matches!(answer, Response::Read(_)),
+        Command::Observe { .. } => matches!(answer, Response::Observed(_)),
+        Command::Count => matches!(answer, Response::Count(_)),
     }
-    fixed
 }
 
-fn page_of(h: History, id: u64) -> Page {
-    if id < 96 {
-        let i = id as usize;
-        return h.pages[i];
+// The handle that a command offers.
+fn offered(asked: Command) -> Option<u64> {
+    match asked {
+        Command::Publish { payload, .. } | Command::Replace { payload, .. } => Some(payload),
+        _ => None,
     }
-    blank()
 }
 
-fn with_page(mut h: History, id: u64, page: Page) -> History {
-    if id < 96 {
-        let i = id as usize;
-        h.pages[i] = page;
-    }
-    h
-}
-
-// Where a handle stands among the first of the bag; 128 if it isn't there.
-fn place(bag: [u64; 128], held: usize, handle: u64) -> usize {
-    for i in 0..128 {
-        if held <= i {
-            return 128;
+// Demand 1. That a refused command changed no record shows in later answers: demand 2 finds it.
+fn of_kind(asked: Command, answer: Response, fixed: Response) -> Response {
+    match (answer, offered(asked)) {
+        (Response::Refused(why), None) if is_in_row(asked, why) => answer,
+        (Response::Returned(why, _), Some(handle)) if is_in_row(asked, why) => {
+            Response::Returned(why, handle)
         }
-        if bag[i] == handle {
-            return i;
-        }
-    }
-    128
-}
-
-fn took(mut h: History, handle: u64) -> History {
-    let at = h.held;
-    if at < 128 {
-        h.bag[at] = handle;
-        h.held = at + 1;
-    }
-    h
-}
-
-fn less(n: u64) -> u64 {
-    if n == 0 {
-        return 0;
-    }
-    n - 1
-}
-
-// The last handle of the bag takes the place of the one that goes.
-fn gave(mut h: History, handle: u64) -> History {
-    let bag = h.bag;
-    let at = place(bag, h.held, handle);
-    if at < 128 {
-        let last = less(h.held as u64) as usize;
-        if last < 128 {
-            h.bag[at] = bag[last];
-            h.held = last;
-        }
-    }
-    h
-}
-
-fn refused(number: u64) -> Told {
-    Told {
-        form: REFUSED,
-        number: number,
-        x: 0,
-        y: 0,
-        z: 0,
+        _ if is_carried_out(asked, answer) => answer,
+        _ => fixed,
     }
 }
 
 // The handle that a publication accepted last, handed back; Released if it doesn't stand.
-fn back(p: Page) -> Told {
-    if p.stands {
-        return Told {
-            form: HANDLE,
-            number: 0,
-            x: p.handle,
-            y: 0,
-            z: 0,
-        };
+fn back(page: Option<Page>) -> Response {
+    match page {
+        Some(page) => Response::Handle(page.handle),
+        None => Response::Refused(Refusal::Released),
     }
-    refused(6)
 }
 
 // The same, shown; Absent if it doesn't stand.
-fn shown(p: Page) -> Told {
-    if p.stands {
-        return Told {
-            form: OBSERVED,
-            number: 0,
-            x: p.replaced,
-            y: p.handle,
-            z: 0,
-        };
+fn shown(page: Option<Page>) -> Response {
+    match page {
+        Some(page) => Response::Observed(Observation {
+            revision: page.replaced,
+            handle: page.handle,
+        }),
+        None => Response::Refused(Refusal::Absent),
     }
-    refused(10)
 }
 
-// Demand 3, of a handle that is handed back or shown: it was accepted, and is not handed back yet. Else the right answer was due; where that
-// is the answer, its handle went elsewhere, and none was.
-fn ledger(h: History, t: Told, handle: u64, right: Told) -> Told {
-    let bag = h.bag;
-    if place(bag, h.held, handle) < 128 {
-        return t;
+impl History {
+    // Before the first command.
+    pub(crate) fn new() -> Self {
+        History {
+            pages: [None; 96],
+            loans: [None; 160],
+            bag: [None; 128],
+            time: 0,
+        }
     }
-    if same(t, right) {
-        return refused(10);
-    }
-    right
-}
 
-// Demand 3, by the history.
-fn third(h: History, q: Asked, t: Told) -> Told {
-    let op = q.op;
-    let p = page_of(h, q.a);
-    match op {
-        REPLACE => {
-            if t.number == 0 {
-                return ledger(h, t, t.x, back(p));
-            }
-            t
+    fn page(&self, id: PublicationId) -> Option<Page> {
+        self.pages.get(id.0 as usize).copied().flatten()
+    }
+
+    fn set_page(&mut self, id: PublicationId, page: Option<Page>) {
+        if let Some(place) = self.pages.get_mut(id.0 as usize) {
+            *place = page;
         }
-        // Relied while a lease of the revoked one is awaited, then the handle accepted last.
-        RECLAIM => {
-            if 0 < p.awaited {
-                return refused(4);
-            }
-            if 0 < p.revoked {
-                return back(p);
-            }
-            if t.number == 0 {
-                return ledger(h, t, t.x, back(p));
-            }
-            t
+    }
+
+    // A handle is accepted. The place is found by its index: of a `find` over `iter_mut` the check leaves a goal open.
+    fn took(&mut self, handle: u64) {
+        if let Some(free) = self.bag.iter().position(|place| place.is_none()) {
+            self.bag[free] = Some(handle);
         }
-        // What stands is shown, and nothing else.
-        OBSERVE => {
-            if t.number != 0 {
-                if p.stands {
-                    return shown(p);
+    }
+
+    // A handle is handed back.
+    fn gave(&mut self, handle: u64) {
+        if let Some(at) = self.bag.iter().position(|place| *place == Some(handle)) {
+            self.bag[at] = None;
+        }
+    }
+
+    // How many handles were accepted and not handed back.
+    fn held(&self) -> u64 {
+        self.bag.iter().flatten().count() as u64
+    }
+
+    // A handle that is handed back or shown was accepted, and is not handed back yet. Else the right answer was due; where that is the
+    // answer, its handle went elsewhere, and none was.
+    fn ledger(&self, answer: Response, handle: u64, right: Response) -> Response {
+        if self.bag.contains(&Some(handle)) {
+            answer
+        } else if answer == right {
+            Response::Refused(Refusal::Absent)
+        } else {
+            right
+        }
+    }
+
+    // An answer that hands a handle back; a refusal is free.
+    fn handed_back(&self, answer: Response, right: Response) -> Response {
+        match answer {
+            Response::Refused(_) | Response::Returned(..) => answer,
+            Response::Handle(handle) => self.ledger(answer, handle, right),
+            _ => right,
+        }
+    }
+
+    // Demand 3.
+    fn due(&self, asked: Command, answer: Response) -> Response {
+        match asked {
+            Command::Replace { id, .. } => self.handed_back(answer, back(self.page(id))),
+            // Relied while a lease of the revoked one is awaited, then the handle accepted last.
+            Command::Reclaim { id } => {
+                let page = self.page(id);
+                match page.and_then(|page| page.revoked) {
+                    Some(revoked) if 0 < revoked.awaited => Response::Refused(Refusal::Relied),
+                    Some(_) => back(page),
+                    None => self.handed_back(answer, back(page)),
                 }
-                return t;
             }
-            if p.stands {
-                return ledger(h, t, t.y, shown(p));
+            // What stands is shown, and nothing else.
+            Command::Observe { id } => {
+                let page = self.page(id);
+                match answer {
+                    Response::Observed(seen) if page.is_some() => {
+                        self.ledger(answer, seen.handle, shown(page))
+                    }
+                    Response::Refused(_) if page.is_none() => answer,
+                    _ => shown(page),
+                }
             }
-            shown(p)
+            // As many as were accepted and not handed back.
+            Command::Count => Response::Count(self.held()),
+            _ => answer,
         }
-        // As many as were accepted and not handed back.
-        COUNT => Told {
-            form: NUMBER,
-            number: 0,
-            x: h.held as u64,
-            y: 0,
-            z: 0,
-        },
-        _ => t,
     }
-}
 
-// The answer that a demand asks for. Demand 2: document 01's.
-pub(crate) fn due(demand: u64, h: History, q: Asked, t: Told, fixed: Told) -> Told {
-    match demand {
-        1 => first(q, t, fixed),
-        2 => fixed,
-        _ => third(h, q, t),
+    // Notes one more command and its answer; a refused one tells nothing.
+    pub(crate) fn note(&mut self, asked: Command, answer: Response) {
+        self.time = self.time.wrapping_add(1);
+        match (asked, answer) {
+            // A publication begins, and accepts a handle.
+            (Command::Publish { payload, .. }, Response::Id(id)) => {
+                let page = Page {
+                    handle: payload,
+                    replaced: 0,
+                    out: 0,
+                    revoked: None,
+                };
+                self.set_page(id, Some(page));
+                self.took(payload);
+            }
+            (Command::Acquire { id, .. }, Response::Lease(lease)) => self.lent(id, lease),
+            (Command::Release { lease }, Response::Done) => self.freed(lease),
+            // The leases outstanding now are awaited.
+            (Command::Revoke { id }, Response::Done) => {
+                let at = self.time;
+                self.change(
+                    id,
+                    |page| page.revoked = Some(Revoked {
+                        at,
+                        awaited: page.out,
+                    }),
+                );
+            }
+            // A handle is handed back, and another accepted.
+            (Command::Replace { id, payload, .. }, Response::Handle(handle)) => {
+                self.change(id, |page| {
+                    page.handle = payload;
+                    page.replaced = page.replaced.wrapping_add(1);
+                });
+                self.gave(handle);
+                self.took(payload);
+            }
+            // A handle is handed back, and the publication ends.
+            (Command::Reclaim { id }, Response::Handle(handle)) => {
+                self.set_page(id, None);
+                self.gave(handle);
+            }
+            _ => {}
+        }
     }
-}
 
-// A lease that is given out.
-fn lent(mut h: History, id: u64, lease: u64) -> History {
-    if lease < 160 {
-        let l = lease as usize;
-        h.loans[l] = Loan {
-            of: id.wrapping_add(1),
-            since: h.time,
+    // Changes the page of a publication that stands.
+    fn change<F: FnOnce(&mut Page)>(&mut self, id: PublicationId, f: F)
+        requires { F.IsAlwaysCallable f }
+    {
+        if let Some(Some(page)) = self.pages.get_mut(id.0 as usize) {
+            f(page);
+        }
+    }
+
+    // A lease that is given out.
+    fn lent(&mut self, id: PublicationId, lease: LeaseId) {
+        let since = self.time;
+        if let Some(place) = self.loans.get_mut(lease.0 as usize) {
+            *place = Some(Loan { of: id, since });
+        }
+        self.change(id, |page| page.out = page.out.wrapping_add(1));
+    }
+
+    // A lease that is back: its publication owes one less.
+    fn freed(&mut self, lease: LeaseId) {
+        let Some(loan) = self
+            .loans
+            .get_mut(lease.0 as usize)
+            .and_then(|place| place.take())
+        else {
+            return;
         };
-    }
-    let mut p = page_of(h, id);
-    p.out = p.out.wrapping_add(1);
-    with_page(h, id, p)
-}
-
-// A lease that is back: its publication owes one less.
-fn freed(mut h: History, lease: u64) -> History {
-    if 160 <= lease {
-        return h;
-    }
-    let l = lease as usize;
-    let loan = h.loans[l];
-    h.loans[l] = Loan { of: 0, since: 0 };
-    // For a lease that was not out, this is no publication.
-    let id = loan.of.wrapping_sub(1);
-    let mut p = page_of(h, id);
-    p.out = less(p.out);
-    if loan.since < p.revoked {
-        p.awaited = less(p.awaited);
-    }
-    with_page(h, id, p)
-}
-
-// The history after one more command; a refused one tells nothing.
-pub(crate) fn noted(mut h: History, q: Asked, t: Told) -> History {
-    let op = q.op;
-    let id = q.a;
-    h.time = h.time.wrapping_add(1);
-    if t.number != 0 {
-        return h;
-    }
-    let mut p = page_of(h, id);
-    match op {
-        // A publication begins, and accepts a handle.
-        PUBLISH => {
-            let mut begun = blank();
-            begun.stands = true;
-            begun.handle = q.d;
-            took(with_page(h, t.x, begun), q.d)
-        }
-        ACQUIRE => lent(h, id, t.x),
-        RELEASE => freed(h, id),
-        // The leases outstanding now are awaited.
-        REVOKE => {
-            if p.stands {
-                p.revoked = h.time;
-                p.awaited = p.out;
-                return with_page(h, id, p);
+        self.change(loan.of, |page| {
+            page.out = page.out.saturating_sub(1);
+            if let Some(revoked) = &mut page.revoked {
+                if loan.since < revoked.at {
+                    revoked.awaited = revoked.awaited.saturating_sub(1);
+                }
             }
-            h
-        }
-        // A handle is handed back, and another accepted.
-        REPLACE => {
-            p.handle = q.d;
-            p.replaced = p.replaced.wrapping_add(1);
-            took(gave(with_page(h, id, p), t.x), q.d)
-        }
-        // A handle is handed back, and the publication ends.
-        RECLAIM => gave(with_page(h, id, blank()), t.x),
-        _ => h,
+        });
     }
 }

@@ -5,167 +5,103 @@
 #![tactic(auto)]
 
 use broken::Fault;
-use rules::Response;
+use checker::{Demand, History};
+use report::Breach;
+use rules::{Command, Response};
 use std::io;
 use store::PublicationStore;
-use traces::{Asked, Told};
-use writing::inner::number_of;
+use traces::{ROWS, Trace};
 
 mod checker;
 mod report;
 mod traces;
 
-// A broker on trial for one demand: its store, what its answers told, the trace and the place in it, and how many commands were judged. It
-// ends at the first answer that is not the due one.
+// A broker on trial: the trace that it plays, its store, what its answers told, and how many commands of the trace were played.
 #[derive(Clone, Copy)]
-pub struct Trial {
-    pub store: PublicationStore,
-    pub history: checker::History,
-    pub trace: u64,
-    pub place: u64,
-    pub judged: u64,
-    pub broken: bool,
-    pub asked: Asked,
-    pub told: Told,
-    pub due: Told,
+struct Trial {
+    trace: Trace,
+    store: PublicationStore,
+    history: History,
+    place: u64,
 }
 
-fn told(form: u64, number: u64, x: u64, y: u64, z: u64) -> Told {
-    Told {
-        form: form,
-        number: number,
-        x: x,
-        y: y,
-        z: z,
-    }
-}
-
-// A broker's answer as the checker reads it.
-fn told_of(r: Response) -> Told {
-    match r {
-        Response::Refused(why) => told(traces::REFUSED, number_of(why), 0, 0, 0),
-        Response::Returned(why, h) => told(traces::RETURNED, number_of(why), h, 0, 0),
-        Response::Done => told(traces::DONE, 0, 0, 0, 0),
-        Response::Id(p) => told(traces::ID, 0, p.0, 0, 0),
-        Response::Lease(l) => told(traces::LEASE, 0, l.0, 0, 0),
-        Response::Handle(h) => told(traces::HANDLE, 0, h, 0, 0),
-        Response::Read(x) => told(traces::READING, 0, x.id.0, x.revision, x.handle),
-        Response::Observed(x) => told(traces::OBSERVED, 0, x.revision, x.handle, 0),
-        Response::Count(n) => told(traces::NUMBER, 0, n, 0, 0),
-    }
-}
-
-fn start() -> Trial {
-    let step = traces::step_at(traces::ROWS, 0);
-    let asked = step.asked;
-    let fixed = step.fixed;
-    Trial {
-        store: PublicationStore::new(),
-        history: checker::start(),
-        trace: 0,
-        place: 0,
-        judged: 0,
-        broken: false,
-        asked: asked,
-        told: fixed,
-        due: fixed,
-    }
-}
-
-// A new trace starts from an empty store, with no history.
-fn at_trace(t: Trial, trace: u64) -> Trial {
-    if t.trace == trace {
-        return t;
-    }
-    let mut fresh = start();
-    fresh.trace = trace;
-    fresh.judged = t.judged;
-    fresh
-}
-
-// One command, played.
-fn turn(t: Trial, fault: Fault, demand: u64, step: traces::Step) -> Trial {
-    let store = t.store;
-    let asked = step.asked;
-    let played = broken::play(fault, store, traces::command_of(asked));
-    let response = played.response;
-    let left = played.store;
-    judged(t, left, demand, step, told_of(response))
-}
-
-// Its answer, judged and noted.
-fn judged(t: Trial, store: PublicationStore, demand: u64, step: traces::Step, told: Told) -> Trial {
-    let history = t.history;
-    let asked = step.asked;
-    let fixed = step.fixed;
-    let due = checker::due(demand, history, asked, told, fixed);
-    Trial {
-        store: store,
-        history: checker::noted(history, asked, told),
-        trace: t.trace,
-        place: t.place.wrapping_add(1),
-        judged: t.judged.wrapping_add(1),
-        broken: !checker::same(told, due),
-        asked: asked,
-        told: told,
-        due: due,
-    }
-}
-
-// A row of the traces, as often as it is to be played: never more than 128 times.
-fn row(mut t: Trial, fault: Fault, demand: u64, at: usize) -> Trial {
-    for n in 0..128 {
-        let step = traces::step_at(at, n);
-        if step.times <= n {
-            return t;
+impl Trial {
+    // A trace starts from an empty store, with no history.
+    fn new(trace: Trace) -> Self {
+        Trial {
+            trace,
+            store: PublicationStore::new(),
+            history: History::new(),
+            place: 0,
         }
-        if t.broken {
-            return t;
+    }
+
+    // One command, played, judged and noted.
+    fn play(
+        &mut self,
+        fault: Fault,
+        demand: Demand,
+        (asked, fixed): (Command, Response),
+    ) -> Result<(), Breach> {
+        let played = broken::play(fault, self.store, asked);
+        let answer = played.answer;
+        let due = checker::due(demand, &self.history, asked, answer, fixed);
+        self.store = played.table;
+        self.history.note(asked, answer);
+        self.place = self.place.wrapping_add(1);
+        if answer == due {
+            return Ok(());
         }
-        t = turn(at_trace(t, step.trace), fault, demand, step);
+        Err(Breach {
+            trace: self.trace,
+            place: self.place,
+            asked,
+            answer,
+            due,
+        })
     }
-    t
 }
 
-// All traces.
-fn tried(fault: Fault, demand: u64) -> Trial {
-    let mut t = start();
-    for i in 0..traces::ROWS {
-        t = row(t, fault, demand, i);
+// All traces: how many commands were judged, or the first answer that is not the due one.
+fn tried(fault: Fault, demand: Demand) -> Result<u64, Breach> {
+    let mut trial = Trial::new(Trace::P2);
+    let mut judged: u64 = 0;
+    for row in &ROWS {
+        if row.trace != trial.trace {
+            trial = Trial::new(row.trace);
+        }
+        for n in 0..row.times {
+            trial.play(fault, demand, row.turn(n))?;
+            judged = judged.wrapping_add(1);
+        }
     }
-    t
+    Ok(judged)
 }
 
-// A demand's line. Answers how many commands kept it; 0 if it is broken.
-fn line(rt: &impl Print, fault: Fault, demand: u64) -> io::Result<u64> {
-    let t = tried(fault, demand);
-    if t.broken {
-        let asked = t.asked;
-        let told = t.told;
-        let due = t.due;
-        report::broken(rt, demand, t.trace, t.place, asked, told, due)?;
-        return Ok(0);
+// A demand's line. Answers how many commands kept it; none if it is broken.
+fn line(rt: &impl Print, fault: Fault, demand: Demand) -> io::Result<Option<u64>> {
+    match tried(fault, demand) {
+        Ok(judged) => {
+            report::kept(rt, demand)?;
+            Ok(Some(judged))
+        }
+        Err(breach) => {
+            report::broken(rt, demand, breach)?;
+            Ok(None)
+        }
     }
-    report::kept(rt, demand)?;
-    Ok(t.judged)
 }
 
 // A broker's three lines.
 fn show(rt: &impl Print, name: &str, fault: Fault) -> io::Result<()> {
     println!(rt; "{name}")?;
-    let first = line(rt, fault, 1)?;
-    let second = line(rt, fault, 2)?;
-    let third = line(rt, fault, 3)?;
-    if first == 0 {
-        return Ok(());
+    let kind = line(rt, fault, Demand::Kind)?;
+    let document = line(rt, fault, Demand::Document)?;
+    let history = line(rt, fault, Demand::History)?;
+    if let (Some(_), Some(_), Some(judged)) = (kind, document, history) {
+        println!(rt; "  keeps all three: {judged} commands judged")?;
     }
-    if second == 0 {
-        return Ok(());
-    }
-    if third == 0 {
-        return Ok(());
-    }
-    println!(rt; "  keeps all three: {third} commands judged")
+    Ok(())
 }
 
 fn head(rt: &impl Print) -> io::Result<()> {
@@ -179,38 +115,41 @@ fn head(rt: &impl Print) -> io::Result<()> {
     println!(rt;
         "Demand 3: by the history of answers: Relied until the leases are back, then the handle last accepted; the ledger; the count.\n"
     )?;
-    println!(rt;
-        "demand  verdict trace          no.  command                                          answered                     must be"
-    )
+    report::head(rt)
 }
+
+// The brokers, by what is wrong with them.
+const BROKERS: [(&str, Fault); 10] = [
+    ("ours", Fault::Nobody),
+    ("refuses everything", Fault::RefusesEverything),
+    ("hands back the same handle", Fault::SameHandle),
+    ("release does nothing", Fault::KeepsLeases),
+    ("release drops all leases", Fault::DropsLeases),
+    ("invents the count", Fault::InventsCount),
+    (
+        "tests the port against retained publications",
+        Fault::TestsRetained,
+    ),
+    (
+        "answers 6 for a lease never given out",
+        Fault::SixForNeverGiven,
+    ),
+    ("leaves the handle in a reclaimed cell", Fault::LeavesHandle),
+    (
+        "hands back another handle when it refuses a publish",
+        Fault::OtherHandleBack,
+    ),
+];
 
 fn main(rt: HostRuntime) -> io::Result<()> {
     head(&rt)?;
-    show(&rt, "ours", Fault::Nobody)?;
-    show(&rt, "refuses everything", Fault::RefusesEverything)?;
-    show(&rt, "hands back the same handle", Fault::SameHandle)?;
-    show(&rt, "release does nothing", Fault::KeepsLeases)?;
-    show(&rt, "release drops all leases", Fault::DropsLeases)?;
-    show(&rt, "invents the count", Fault::InventsCount)?;
-    show(
-        &rt,
-        "tests the port against retained publications",
-        Fault::TestsRetained,
-    )?;
-    show(
-        &rt,
-        "answers 6 for a lease never given out",
-        Fault::SixForNeverGiven,
-    )?;
-    show(
-        &rt,
-        "leaves the handle in a reclaimed cell",
-        Fault::LeavesHandle,
-    )?;
-    println!(rt; "  The test of the table shows it (S5): without that test no answer would.")?;
-    show(
-        &rt,
-        "hands back another handle when it refuses a publish",
-        Fault::OtherHandleBack,
-    )
+    for (name, fault) in BROKERS {
+        show(&rt, name, fault)?;
+        if fault == Fault::LeavesHandle {
+            println!(rt;
+                "  The test of the table shows it (S5): without that test no answer would."
+            )?;
+        }
+    }
+    Ok(())
 }

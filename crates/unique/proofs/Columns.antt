@@ -1,11 +1,9 @@
 -- The tests of soundness, and the decisions on one record: each contract lets one outcome through.
 -- Assumes nothing.
 use Prim.Native.Nat.{ℕ}
-use mathlib.Core.Path.{◌≡◌, sym, ◌∙◌}
+use mathlib.Core.Path.{sym, ◌∙◌}
 use mathlib.Core.List.{List}
-use lib.ListN.{length, take, replicate, length-replicate}
-use lib.Seq.{length-take-le}
-use native.Mathlib.Omega.{arith}
+use lib.ListN.{replicate, length-replicate}
 use Rattle.rules.specs.Table.{blank_lease}
 use Rattle.rules.specs.declared.Lease.{Lease}
 use Rattle.columns.proofs as columns
@@ -15,9 +13,6 @@ use Rattle.unique.specs.OneOutcome.{OneOutcome}
 -- n blank leases
 abbrev blanks : ℕ → List Lease
 blanks n = replicate n blank_lease
-
-as_many : (n : ℕ) → length (take n (blanks n)) ≡ n
-as_many n = length-take-le n (blanks n) (omega (arith, length-replicate n blank_lease))
 
 pub is_sound_one : OneOutcome 0 columns.is_sound.Kinds.ps columns.is_sound.Kinds.r columns.is_sound.Reads.Post
 is_sound_one κs a x y s p q = p ∙ sym q
@@ -42,7 +37,9 @@ adopt_verdict_one κs a x y s p q = p ∙ sym q
 
 -- its contract speaks of any list of that many leases: there is one
 pub acquire_verdict_one : OneOutcome 0 records.acquire_verdict.Kinds.ps records.acquire_verdict.Kinds.r records.acquire_verdict.Reads.Post
-acquire_verdict_one κs a x y s p q = p (blanks a.1.0) (as_many a.1.0) ∙ sym (q (blanks a.1.0) (as_many a.1.0))
+acquire_verdict_one κs a x y s p q =
+    let l = length-replicate a.1.0 blank_lease in
+    p (blanks a.1.0) l ∙ sym (q (blanks a.1.0) l)
 
 pub reclaim_verdict_one : OneOutcome 0 records.reclaim_verdict.Kinds.ps records.reclaim_verdict.Kinds.r records.reclaim_verdict.Reads.Post
 reclaim_verdict_one κs a x y s p q = p ∙ sym q

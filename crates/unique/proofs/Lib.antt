@@ -6,3 +6,4 @@ pub mod Text
 pub mod Trace
 pub mod Reader
 pub mod Embed
+pub mod Numbers

@@ -2,6 +2,7 @@
 -- Assumes nothing.
 use mathlib.Core.Path.{sym, ◌∙◌}
 use Rattle.text.proofs as text
+use Rattle.text.proofs.OpRows.{by_row_fixed}
 use Rattle.blocks.proofs as blocks
 use Rattle.unique.specs.OneOutcome.{OneOutcome}
 
@@ -12,7 +13,7 @@ pub word_at_one : OneOutcome 2 text.word_at.Kinds.ps text.word_at.Kinds.r text.w
 word_at_one κs a x y s p q = p ∙ sym q
 
 pub op_at_one : OneOutcome 1 text.op_at.Kinds.ps text.op_at.Kinds.r text.op_at.Reads.Post
-op_at_one κs a x y s p q = p ∙ sym q
+op_at_one κs a x y s p q = by_row_fixed x y (p ∙ sym q)
 
 pub key_line_at_one : OneOutcome 1 text.key_line_at.Kinds.ps text.key_line_at.Kinds.r text.key_line_at.Reads.Post
 key_line_at_one κs a x y s p q = p ∙ sym q

@@ -1,5 +1,6 @@
 -- `check_lease_capacity`, and `acquire` of the registry (`acquire_for`, `acquire_tagged`) and of the store: R14 to R16, R22 and S12.
 -- Assumes nothing.
+use Rattle.std.specs.Prelude.{Option, None}
 use Prim.Native.Nat.{ℕ, ◌+◌, ◌<◌}
 use mathlib.Core.Path.{◌≡◌, refl, sym, ap, ◌∙◌}
 use mathlib.Core.Bool.{true, false}
@@ -14,7 +15,7 @@ use Rattle.lists.proofs.Search.{none_found}
 use Rattle.rules.specs.Limits.{Limits}
 use Rattle.rules.specs.Answers.{refused}
 use Rattle.rules.specs.Commands.{AnswerTo}
-use Rattle.rules.specs.Table.{Registry, Store}
+use Rattle.rules.specs.Table.{Registry, Store, taken_by}
 use Rattle.rules.specs.Conditions.{is_lease, active}
 use Rattle.rules.specs.Rows.{step}
 use Rattle.rules.specs.RegistryRows.{Call, CallAnswer, acquire, check_lease_capacity, registry_step}
@@ -27,7 +28,6 @@ use Rattle.rules.specs.declared.Owner.{Owner}
 use Rattle.rules.specs.declared.Port.{Port}
 use Rattle.rules.specs.declared.Lease.{Lease}
 use Rattle.rules.specs.declared.Consumer.{Consumer}
-use Rattle.rules.specs.declared.Consumer.TheVariants.{Nobody, Episode}
 use Rattle.rules.specs.declared.Refusal.TheVariants.{Capacity}
 use Rattle.rules.specs.declared.Command.{Command}
 use Rattle.rules.specs.declared.Command.TheVariants.{Acquire}
@@ -56,10 +56,10 @@ check_lease_capacity_R14 L n t =
     }
 
 -- the record of a lease
-abbrev lent : LeaseId → PublicationId → Consumer → Lease
+abbrev lent : LeaseId → PublicationId → Option Consumer → Lease
 lent i p k = record { id = i; publication = p; consumer = k }
 
-module _ (L : Limits) (id : PublicationId) (consumer : Consumer) where
+module _ (L : Limits) (id : PublicationId) (consumer : Option Consumer) where
   pub record AcquireOk (old : Registry) (lease : LeaseId) (final : Registry) : Type 0 where
     pub R22_7 : lease.0 ≡ lease_allocations old
     pub R22_8 : lease_allocations final ≡ lease_allocations old + 1
@@ -78,8 +78,8 @@ module _ (L : Limits) (id : PublicationId) (owner : Owner) (generation : ℕ) wh
   pub record StoreAcquireOk (old : Store) (lease : LeaseId) (final : Store) : Type 0 where
     pub S12_10 : lease.0 ≡ lease_allocations (registry_view old)
     pub S12_11 : lease_allocations (registry_view final) ≡ lease_allocations (registry_view old) + 1
-    pub S12_12 : lease_records (registry_view final) ≡ lease_records (registry_view old) ++ (lent lease id (Episode owner generation) ∷ [])
-    pub S12_13 : active_lease (registry_view final) lease ≡ some (lent lease id (Episode owner generation))
+    pub S12_12 : lease_records (registry_view final) ≡ lease_records (registry_view old) ++ (lent lease id (taken_by owner generation) ∷ [])
+    pub S12_13 : active_lease (registry_view final) lease ≡ some (lent lease id (taken_by owner generation))
 
   pub record StoreAcquireClauses (old final : Store) (out : AnswerTo (Acquire id owner generation)) : Type 0 where
     pub S12_2 : StoreWf final
@@ -102,7 +102,7 @@ next_inactive L t s =
     s.s4.below)
 
 module _ (L : Limits) (t : Registry) (p : PublicationId) (s : RegistrySound L t) where
-  pub acquire_R22 : (c : Consumer) → AcquireClauses L p c t (registry_step L t (acquire p c)).table (registry_step L t (acquire p c)).answer
+  pub acquire_R22 : (c : Option Consumer) → AcquireClauses L p c t (registry_step L t (acquire p c)).table (registry_step L t (acquire p c)).answer
   acquire_R22 c =
       record {
         R22_2 = Iff.trans (call_done L t k) (Iff.symm (acquire_exactly L t p c));
@@ -118,12 +118,12 @@ module _ (L : Limits) (t : Registry) (p : PublicationId) (s : RegistrySound L t)
 
   -- for nobody by name, and for an owner in a generation
 
-  pub acquire_R15 : AcquireClauses L p Nobody t (registry_step L t (acquire p Nobody)).table (registry_step L t (acquire p Nobody)).answer
-  acquire_R15 = acquire_R22 Nobody
+  pub acquire_R15 : AcquireClauses L p None t (registry_step L t (acquire p None)).table (registry_step L t (acquire p None)).answer
+  acquire_R15 = acquire_R22 None
 
   pub acquire_for_R16 : (o : Owner) (g : ℕ)
-      → AcquireClauses L p (Episode o g) t (registry_step L t (acquire p (Episode o g))).table (registry_step L t (acquire p (Episode o g))).answer
-  acquire_for_R16 o g = acquire_R22 (Episode o g)
+      → AcquireClauses L p (taken_by o g) t (registry_step L t (acquire p (taken_by o g))).table (registry_step L t (acquire p (taken_by o g))).answer
+  acquire_for_R16 o g = acquire_R22 (taken_by o g)
 
 pub acquire_for_S12 : (L : Limits) (s : Store) → StoreSound L s → (p : PublicationId) (o : Owner) (g : ℕ)
     → StoreAcquireClauses L p o g s (step L s (Acquire p o g)).table (step L s (Acquire p o g)).answer
@@ -145,7 +145,7 @@ acquire_for_S12 L s h p o g =
             S12_11 = omega arith;
             S12_12 = refl;
             S12_13 =
-                first_snoc (is_lease next) s.registry.leases (lent next p (Episode o g)) (next_inactive L s.registry h.registry)
+                first_snoc (is_lease next) s.registry.leases (lent next p (taken_by o g)) (next_inactive L s.registry h.registry)
                 (eq-eqb next.0 next.0 refl);
           });
     }

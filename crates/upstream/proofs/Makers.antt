@@ -1,13 +1,12 @@
 -- The makers give an empty, well formed table: R1, R3, R4 and S1.
 -- Assumes nothing.
+use Rattle.std.specs.Prelude.{Option, Some, None}
 use Prim.Native.Nat.{ℕ}
 use mathlib.Core.Path.{◌≡◌, refl, sym, subst}
 use lib.ListN.{length}
 use Rattle.rules.specs.Limits.{Limits}
 use Rattle.rules.specs.Table.{Registry, Store, empty_registry, empty_store}
 use Rattle.rules.specs.Columns.{used_registry, used, filled_registry, filled}
-use Rattle.rules.specs.declared.Domain.{Domain}
-use Rattle.rules.specs.declared.Domain.TheVariants.{Unset, Number}
 use Rattle.rules.proofs.KeepsRegistry.{empty_registry_sound}
 use Rattle.rules.proofs.KeepsStore.{empty_sound}
 use Rattle.rules.proofs.Columns.{used_filled_registry, used_filled}
@@ -16,7 +15,7 @@ use Rattle.upstream.specs.Store.{registry_view, values, revisions, StoreWf}
 use Rattle.upstream.proofs.Wf.{sound_wf, store_sound_wf}
 
 -- a registry's, for a domain or none; R3 reads the same
-pub record NewClauses (domain : Domain) (out : Registry) : Type 0 where
+pub record NewClauses (domain : Option ℕ) (out : Registry) : Type 0 where
   pub R4_1 : RegistryWf out
   pub R4_2 : domain_id out ≡ domain
   pub R4_3 : length (publications out) ≡ 0
@@ -24,7 +23,7 @@ pub record NewClauses (domain : Domain) (out : Registry) : Type 0 where
   pub R4_5 : lease_allocations out ≡ 0
 
 -- a store's
-pub record StoreNewClauses (domain : Domain) (out : Store) : Type 0 where
+pub record StoreNewClauses (domain : Option ℕ) (out : Store) : Type 0 where
   pub S1_1 : StoreWf out
   pub S1_2 : domain_id (registry_view out) ≡ domain
   pub S1_3 : length (values out) ≡ 0
@@ -36,18 +35,18 @@ pub record StoreNewClauses (domain : Domain) (out : Store) : Type 0 where
 module _ (L : Limits) where
   -- what is in use in the columns that a maker gives
 
-  abbrev pub made : Domain → Registry
+  abbrev pub made : Option ℕ → Registry
   made d = used_registry (filled_registry L (empty_registry d))
 
-  abbrev pub made_store : Domain → Store
+  abbrev pub made_store : Option ℕ → Store
   made_store d = used (filled L (empty_store d))
 
-  pub made_clauses : (d : Domain) → NewClauses d (made d)
+  pub made_clauses : (d : Option ℕ) → NewClauses d (made d)
   made_clauses d =
       subst (NewClauses d) (sym (used_filled_registry L (empty_registry d)))
       (record { R4_1 = sound_wf L (empty_registry d) (empty_registry_sound L d); R4_2 = refl; R4_3 = refl; R4_4 = refl; R4_5 = refl })
 
-  pub made_store_clauses : (d : Domain) → StoreNewClauses d (made_store d)
+  pub made_store_clauses : (d : Option ℕ) → StoreNewClauses d (made_store d)
   made_store_clauses d =
       subst (StoreNewClauses d) (sym (used_filled L (empty_store d) refl refl))
       (record {
@@ -62,19 +61,19 @@ module _ (L : Limits) where
 
   -- the registry's `default` and `new`, and its `for_domain`
 
-  pub default_R1 : NewClauses Unset (made Unset)
-  default_R1 = made_clauses Unset
+  pub default_R1 : NewClauses None (made None)
+  default_R1 = made_clauses None
 
-  pub for_domain_R3 : (n : ℕ) → NewClauses (Number n) (made (Number n))
-  for_domain_R3 n = made_clauses (Number n)
+  pub for_domain_R3 : (n : ℕ) → NewClauses (Some n) (made (Some n))
+  for_domain_R3 n = made_clauses (Some n)
 
-  pub new_R4 : NewClauses Unset (made Unset)
-  new_R4 = made_clauses Unset
+  pub new_R4 : NewClauses None (made None)
+  new_R4 = made_clauses None
 
   -- the store's `for_domain`, and its `new`, which upstream has not
 
-  pub for_domain_S1 : (n : ℕ) → StoreNewClauses (Number n) (made_store (Number n))
-  for_domain_S1 n = made_store_clauses (Number n)
+  pub for_domain_S1 : (n : ℕ) → StoreNewClauses (Some n) (made_store (Some n))
+  for_domain_S1 n = made_store_clauses (Some n)
 
-  pub store_new : StoreNewClauses Unset (made_store Unset)
-  store_new = made_store_clauses Unset
+  pub store_new : StoreNewClauses None (made_store None)
+  store_new = made_store_clauses None

@@ -1,6 +1,7 @@
 -- Upstream's definitions of a registry, in its words, over our table; `acquisition_enabled` stands in crates/rules/specs/Acquisition.antt.
 -- Assumes nothing.
 use Rattle.std.specs.Prelude.{ℕ, suc, ◌≤◌, ◌<◌, ◌≡◌, ◌≢◌, Bool, true, cond, List, [], ◌∷◌, ◌++◌, length, get_or, take, drop}
+use Rattle.std.specs.Prelude as std
 use Rattle.std.proofs.Math.Option.{Option, none, some}
 use Rattle.rules.specs.Table.{Registry, blank_publication, blank_lease, at}
 use Rattle.rules.specs.Conditions.{is_lease}
@@ -8,7 +9,6 @@ use Rattle.rules.specs.declared.PublicationId.{PublicationId}
 use Rattle.rules.specs.declared.LeaseId.{LeaseId}
 use Rattle.rules.specs.declared.Publication.{Publication}
 use Rattle.rules.specs.declared.Lease.{Lease}
-use Rattle.rules.specs.declared.Domain.{Domain}
 
 -- the first element that passes a test
 abbrev pub first_that : {A : Type 0} → (A → Bool) → List A → Option A
@@ -27,7 +27,7 @@ with_generation e g =
 module _ (t : Registry) where
   -- what clauses see of a registry: D1 to D4
 
-  abbrev pub domain_id : Domain
+  abbrev pub domain_id : std.Option ℕ
   domain_id = t.domain
 
   abbrev pub publications : List Publication

@@ -2,7 +2,7 @@
 // that it is started with. Each trace goes through trace::report, and every byte of the report is compared.
 #![tactic(auto)]
 
-ghost use Rattle.std.specs.Prelude.{◌≡◌, ◌≤◌, IfOk, length, take};
+ghost use Rattle.std.specs.Prelude.{◌≡◌, ◌≤◌, IsNone, length, take};
 ghost use Rattle.std.specs.Io.{ReadsAtMost};
 
 use std::env::FillError;
@@ -34,47 +34,37 @@ fn load(
     }
 }
 
-// Puts w into path after its first n bytes, as far as there is room, and answers the place after it.
+// Puts w into path after its first n bytes, as far as there is room, and answers the place after it. A path is bytes, since an argument need not
+// be text.
 fn put_after(path: &mut [u8], n: usize, w: &[u8]) -> usize
     ensures within { result ≤ length path.new }
     ensures counts { result ≡ length (take result path.new) }
 {
-    if path.len() < n {
+    let Some(room) = path.get_mut(n..) else {
         return 0;
-    }
-    let mut end = n;
-    for b in w {
-        if path.len() <= end {
-            return end;
-        }
-        path[end] = *b;
-        end += 1;
-    }
-    end
+    };
+    let k = room.len().min(w.len());
+    room[..k].copy_from_slice(&w[..k]);
+    n + k
 }
 
-// The number of the first byte, from 1 on, in which a and b differ; 0 where they are the same.
-fn difference(a: &[u8], b: &[u8]) -> usize
-    ensures { result ≡ 0 → a.now ≡ b.now }
+// The number of the first byte, from 1 on, in which a and b differ.
+fn difference(a: &[u8], b: &[u8]) -> Option<usize>
+    ensures { IsNone result → a.now ≡ b.now }
 {
     for i in 0..a.len() {
-        if b.len() <= i {
-            return i + 1;
-        }
-        if a[i] != b[i] {
-            return i + 1;
+        if b.get(i) != Some(&a[i]) {
+            return Some(i + 1);
         }
     }
     if a.len() < b.len() {
-        return a.len() + 1;
+        return Some(a.len() + 1);
     }
-    0
+    None
 }
 
-// Judges the trace of argument i and prints a line. Answers how many reports are the same: 1 or 0.
-fn judge(rt: &(impl Env + Files + Print + Eprint), i: usize) -> io::Result<u64>
-    ensures { IfOk result (λ n. n ≤ 1) }
-{
+// Judges the trace of argument i and prints a line. Answers whether the report is the same.
+fn is_same(rt: &(impl Env + Files + Print + Eprint), i: usize) -> io::Result<bool> {
     let mut path = [0u8; 128];
     // An argument that is longer than the path is taken as an empty one.
     let n = rt.arg(i, &mut path).unwrap_or(0);
@@ -85,26 +75,31 @@ fn judge(rt: &(impl Env + Files + Print + Eprint), i: usize) -> io::Result<u64>
     let k = load(rt, &mut path, n, b".answers", &mut answers)?;
     let mut out = [0u8; 65600];
     let written = trace::report(&input[..m], &mut out).written;
-    let d = difference(&out[..written], &answers[..k]);
-    if d == 0 {
-        println!(rt; ": same")?;
-        return Ok(1);
+    match difference(&out[..written], &answers[..k]) {
+        None => {
+            println!(rt; ": same")?;
+            Ok(true)
+        }
+        Some(at) => {
+            println!(rt; ": differs at byte {at}")?;
+            Ok(false)
+        }
     }
-    println!(rt; ": differs at byte {d}")?;
-    Ok(0)
 }
 
 fn main(rt: HostRuntime) -> io::Result<()> {
-    let mut same: u64 = 0;
-    let mut different: u64 = 0;
+    let mut same: usize = 0;
+    let mut different: usize = 0;
     for i in 1..usize::MAX {
         let mut path = [0u8; 128];
         if let Err(FillError::NotPresent) = rt.arg(i, &mut path) {
             break;
         }
-        let n = judge(&rt, i)?;
-        same += n;
-        different += 1 - n;
+        if is_same(&rt, i)? {
+            same += 1;
+        } else {
+            different += 1;
+        }
     }
     println!(rt; "{same} same, {different} different")
 }

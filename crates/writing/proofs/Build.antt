@@ -5,7 +5,6 @@ use prog.Linked.{World, Tree, Holds, in_world}
 use prog.LinkedThreads.{HasT}
 use prog.Wired.{Code}
 use Rattle.writing.proofs.TheLink as link
-use Rattle.writing.proofs.inner.number_of.Symbol as inner-number_of
 use Rattle.writing.proofs.inner.put_line.Symbol as inner-put_line
 use Rattle.writing.proofs.inner.put_line_at.Symbol as inner-put_line_at
 use Rattle.writing.proofs.inner.put.Symbol as inner-put
@@ -23,9 +22,6 @@ Below = link.Below
 -- in every build in which the crate stands on those below, that code is there
 abbrev pub Stands : Code → Type 0
 Stands c = (W : World) → Holds W "writing" table → Below W → HasT (in_world W) true c
-
-pub inner-number_of-stands : Stands inner-number_of.code
-inner-number_of-stands = link.linked-writing::inner::number_of
 
 pub inner-put_line-stands : Stands inner-put_line.code
 inner-put_line-stands = link.linked-writing::inner::put_line

@@ -1,6 +1,5 @@
 pub mod Written
 pub mod Lines
 pub mod Names
-pub mod Keys
 pub mod NumberTurns
 pub mod Build

@@ -43,9 +43,6 @@ module _ (code n : ℕ) (out : List ℕ) (room : length (line_text code n) ≤ l
   key_held : Holds out xs a (key_text code)
   key_held = record { text = p.1; place = p.0 }
 
-  pub key_below : a < length xs
-  key_below = omega (arith, line_length code n, as_long key_held (omega (arith, line_length code n)), p.0)
-
   pub digits_room : length (digits n) ≤ length (take (length xs - a) (drop a xs))
   digits_room = piece_room key_held (length (digits n)) (omega (arith, line_length code n))
 

@@ -1,13 +1,13 @@
 -- Laws of texts written into an output.
 -- Assumes nothing.
 use Prim.Native.Nat.{ℕ, suc, ◌+◌, ◌-◌, ◌≤◌, ◌<◌}
-use mathlib.Core.Path.{◌≡◌, refl, sym, ap, ◌∙◌}
+use mathlib.Core.Path.{◌≡◌, refl, ap, ◌∙◌}
 use mathlib.Core.List.{List, [], ◌∷◌, ◌++◌, append_assoc, append-nil}
 use native.Mathlib.Omega.{arith}
 use native.Mathlib.Nat.{not-suc-le-zero}
 use native.Mathlib.Numerals.{add-one}
-use lib.ListN.{length, take, drop, get_or, set, length-append, length-drop, drop_of_length-le, length-set}
-use lib.Seq.{drop-cons, set-append_seam, append_snoc, take-suc, take_all, length-take-le, take-append_seam, drop-append_seam, drop-drop}
+use lib.ListN.{length, take, drop, set, length-append, length-drop, drop_of_length-le}
+use lib.Seq.{drop-cons, set-append_seam, append_snoc, take_all, take-append_seam, drop-append_seam, drop-drop}
 use borrow.Rule.Slice.PartMut.{put_mid}
 use Rattle.writing.specs.Written.{over, over_from}
 
@@ -28,30 +28,6 @@ over_snoc w out x h =
 -- a text after another
 pub over_after : (v w out : List ℕ) → over_from (length v) w (over v out) ≡ over (v ++ w) out
 over_after v w out = rw (take-append_seam, drop-append_seam, drop-drop, length-append, append_assoc)
-
--- a copy of w to the start of d: j bytes are in out
-
-pub record Copied (d w out : List ℕ) (j : ℕ) : Type 0 where
-  pub text : out ≡ over (take j w) d
-  pub passed : j ≤ length w
-  pub long : length out ≡ length d
-
-pub copy_starts : (d w : List ℕ) → Copied d w d 0
-copy_starts d w = record { text = refl; passed = omega arith; long = refl }
-
-module _ {d w out : List ℕ} {j : ℕ} (k : Copied d w out j) where
-  pub copy_goes_on : j < length w → length w ≤ length d → Copied d w (set out j (get_or w j 0)) (j + 1)
-  copy_goes_on h l =
-      let n = length-take-le j w k.passed in
-      let s : set (over (take j w) d) (length (take j w)) (get_or w j 0) ≡ over (take j w ++ get_or w j 0 ∷ []) d = over_snoc (take j w) d (get_or w j 0) (omega arith) in
-      record {
-        text = ap (λ (l : List ℕ). set l j (get_or w j 0)) k.text ∙ ap (λ (i : ℕ). set (over (take j w) d) i (get_or w j 0)) (sym n) ∙ s ∙ rw (add-one j, take-suc w j 0 h);
-        passed = omega arith;
-        long = simp length-set k.long;
-      }
-
-  pub copy_ends : length w ≤ j → (j ≡ length w) × (out ≡ over w d)
-  copy_ends h = (omega (arith, k.passed), k.text ∙ rw (take_all j w h))
 
 -- a part of an output, from the place a to its end, is lent
 
@@ -75,11 +51,6 @@ pub lent_after : (v w out xs ys : List ℕ) (a : ℕ) → a ≡ length v → xs 
     → put_mid a (length xs - a) xs ys ≡ over (v ++ w) out
 lent_after v w out xs ys a e p q =
     lent_from a w xs ys q ∙ ap (over_from a w) p ∙ ap (λ (k : ℕ). over_from k w (over v out)) e ∙ over_after v w out
-
--- of a writer that lends the part to another: its answer is the place after the text
-pub lent_put : (a : ℕ) (w xs : List ℕ) {ys : List ℕ} {k : ℕ} → (k ≡ length w) × (ys ≡ over w (take (length xs - a) (drop a xs)))
-    → (a + k ≡ a + length w) × (put_mid a (length xs - a) xs ys ≡ over_from a w xs)
-lent_put a w xs {ys} p = (ap (λ (k : ℕ). a + k) p.0, lent_from a w xs ys p.1)
 
 -- out is changed to xs, in which the text t is written and at is the place after it
 pub record Holds (out xs : List ℕ) (at : ℕ) (t : List ℕ) : Type 0 where

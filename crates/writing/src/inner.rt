@@ -1,25 +1,22 @@
 // Texts written at the start of an output, or from a place of it on. Each writer wants room for its text; every other byte stays.
-// These are no entry points: the room and the key's code are for the caller to see to.
+// These are no entry points: the room is for the caller to see to.
 ghost use Rattle.std.specs.Prelude.{◌≡◌, ◌+◌, ◌≤◌, length};
-ghost use Rattle.rules.specs.Refusals.{name_of, refusal_number};
+ghost use Rattle.rules.specs.Refusals.{name_of};
 ghost use Rattle.text.specs.Digits.{digits};
 ghost use Rattle.text.specs.Keys.{key_text};
 ghost use Rattle.text.specs.Lines.{line_text};
 ghost use Rattle.writing.specs.Written.{over, over_from};
-
-use rules::Refusal;
+ghost use Rattle.writing.specs.AnswerKeys.{code_of};
 
 // The word w.
 pub fn put(out: &mut [u8], w: &[u8]) -> usize
     requires { length w.now ≤ length out.old }
     ensures { (result ≡ length w.now) × (out.new ≡ over w.now out.old) }
 {
-    let mut j = 0;
-    while j < w.len() {
+    for j in 0..w.len() {
         out[j] = w[j];
-        j += 1;
     }
-    j
+    w.len()
 }
 
 // The digits of n, with no leading zeros.
@@ -36,25 +33,8 @@ pub fn put_number(out: &mut [u8], n: u64) -> usize
     k + 1
 }
 
-// A refusal's number.
-pub fn number_of(r: Refusal) -> u64
-    ensures { result ≡ refusal_number r }
-{
-    match r {
-        Refusal::Unknown => 1,
-        Refusal::Revoked => 2,
-        Refusal::Conflict => 3,
-        Refusal::Relied => 4,
-        Refusal::Visible => 5,
-        Refusal::Released => 6,
-        Refusal::Capacity => 7,
-        Refusal::InvalidState => 8,
-        Refusal::BadTable => 9,
-        Refusal::Absent => 10,
-    }
-}
-
-// The name of the number n.
+// The name of the number n, of an answer or of a stop: docs/DECISIONS.md fixes the form, a match over the numbers.
+#[tactic(auto, unfolding(rules::specs::Refusals::name_of))]
 pub fn put_name(out: &mut [u8], n: u64) -> usize
     requires { 12 ≤ length out.old }
     ensures { (result ≡ length (name_of n)) × (out.new ≡ over (name_of n) out.old) }
@@ -77,38 +57,50 @@ pub fn put_name(out: &mut [u8], n: u64) -> usize
     }
 }
 
-// An answer's key and its sign, by code: 4 payload, 5 id, 6 lease, 7 answer, 8 revision, 9 count.
-pub fn put_key(out: &mut [u8], code: u8) -> usize
-    requires { (4 ≤ code) × (code ≤ 9) × (length (key_text code) ≤ length out.old) }
-    ensures { (result ≡ length (key_text code)) × (out.new ≡ over (key_text code) out.old) }
+// An answer's key, with its code in the crate text.
+#[derive(Clone, Copy)]
+pub enum Key {
+    Payload = 4,
+    Id = 5,
+    Lease = 6,
+    Answer = 7,
+    Revision = 8,
+    Count = 9,
+}
+
+// An answer's key and its sign.
+#[tactic(auto, unfolding(text::specs::Keys::key_text))]
+pub fn put_key(out: &mut [u8], key: Key) -> usize
+    requires { length (key_text (code_of key)) ≤ length out.old }
+    ensures { (result ≡ length (key_text (code_of key))) × (out.new ≡ over (key_text (code_of key)) out.old) }
 {
-    match code {
-        4 => put(out, b"payload="),
-        5 => put(out, b"id="),
-        6 => put(out, b"lease="),
-        7 => put(out, b"answer="),
-        8 => put(out, b"revision="),
-        _ => put(out, b"count="),
+    match key {
+        Key::Payload => put(out, b"payload="),
+        Key::Id => put(out, b"id="),
+        Key::Lease => put(out, b"lease="),
+        Key::Answer => put(out, b"answer="),
+        Key::Revision => put(out, b"revision="),
+        Key::Count => put(out, b"count="),
     }
 }
 
 // An answer's line: key, value, line feed.
-pub fn put_line(out: &mut [u8], code: u8, n: u64) -> usize
-    requires { (4 ≤ code) × (code ≤ 9) × (length (line_text code n) ≤ length out.old) }
-    ensures { (result ≡ length (line_text code n)) × (out.new ≡ over (line_text code n) out.old) }
+pub fn put_line(out: &mut [u8], key: Key, n: u64) -> usize
+    requires { length (line_text (code_of key) n) ≤ length out.old }
+    ensures { (result ≡ length (line_text (code_of key) n)) × (out.new ≡ over (line_text (code_of key) n) out.old) }
 {
-    let a = put_key(out, code);
+    let a = put_key(out, key);
     let b = put_number(&mut out[a..], n);
     let e = a + b;
     out[e] = 10;
     e + 1
 }
 
-// The same from the place at on: the output's remaining part is lent to the line's writer. Answers the place after the line.
-pub fn put_line_at(out: &mut [u8], at: usize, code: u8, n: u64) -> usize
-    requires { (4 ≤ code) × (code ≤ 9) × (at + length (line_text code n) ≤ length out.old) }
-    ensures { (result ≡ at + length (line_text code n)) × (out.new ≡ over_from at (line_text code n) out.old) }
+// The same from the place at on: the output's remaining part is lent to the line's writer, as docs/DECISIONS.md fixes it. Answers the place after the line.
+pub fn put_line_at(out: &mut [u8], at: usize, key: Key, n: u64) -> usize
+    requires { at + length (line_text (code_of key) n) ≤ length out.old }
+    ensures { (result ≡ at + length (line_text (code_of key) n)) × (out.new ≡ over_from at (line_text (code_of key) n) out.old) }
 {
-    let k = put_line(&mut out[at..], code, n);
+    let k = put_line(&mut out[at..], key, n);
     at + k
 }

@@ -1,72 +1,112 @@
 // Searches of the records in use.
-ghost use Rattle.std.specs.Prelude.{◌≡◌, ◌≤◌, take};
+ghost use Rattle.std.specs.Prelude.{◌≡◌, Bool};
 ghost use Rattle.rules.specs.Sound.{Rising};
 ghost use Rattle.rules.specs.Conditions.{visible_on, retained_in, is_lease, names};
-ghost use Rattle.columns.specs.Verdicts.{place_of};
+ghost use Rattle.columns.specs.Verdicts.{place_of, known_of};
 
-use crate::{Place, records};
+use crate::records;
 use rules::{Lease, LeaseId, Port, Publication, PublicationId};
 
-// The publication that is visible on a port.
-pub fn port_place(publications: [Publication; 96], count: usize, port: Port) -> Place
-    requires { count ≤ 96 }
-    ensures { result ≡ place_of (visible_on port) (take count publications) }
+// What a record is searched for.
+pub trait Wanted<T> {
+    ghost passes: { Self → T → Bool };
+
+    fn is_met(&self, of: &T) -> bool
+        ensures { result ≡ passes self.now of.now };
+}
+
+// The place of the first record that meets it.
+pub fn place<T, W: Wanted<T>>(records: &[T], wanted: &W) -> Option<usize>
+    ensures { result ≡ place_of (W.passes wanted.now) records.now }
 {
-    let mut i: usize = 0;
-    while i < count {
-        let e = publications[i];
-        if records::holds_port(e, port) {
-            return Place::At(i);
+    for i in 0..records.len() {
+        if wanted.is_met(&records[i]) {
+            return Some(i);
         }
-        i += 1;
     }
-    Place::Nowhere
+    None
+}
+
+#[derive(Clone, Copy)]
+struct VisibleOn(Port);
+
+impl Wanted<Publication> for VisibleOn {
+    ghost passes = { λ w e. visible_on w.0 e };
+
+    fn is_met(&self, of: &Publication) -> bool {
+        records::holds_port(*of, self.0)
+    }
+}
+
+#[derive(Clone, Copy)]
+struct RetainedIn(u64);
+
+impl Wanted<Publication> for RetainedIn {
+    ghost passes = { λ w e. retained_in w.0 e };
+
+    fn is_met(&self, of: &Publication) -> bool {
+        records::holds_slot(*of, self.0)
+    }
+}
+
+#[derive(Clone, Copy)]
+struct Named(LeaseId);
+
+impl Wanted<Lease> for Named {
+    ghost passes = { λ w l. is_lease w.0 l };
+
+    fn is_met(&self, of: &Lease) -> bool {
+        records::has_id(*of, self.0)
+    }
+}
+
+#[derive(Clone, Copy)]
+struct Naming(PublicationId);
+
+impl Wanted<Lease> for Naming {
+    ghost passes = { λ w l. names w.0 l };
+
+    fn is_met(&self, of: &Lease) -> bool {
+        records::names_publication(*of, self.0)
+    }
+}
+
+// The publication with an identifier, if that was given out.
+pub fn known(publications: &[Publication], id: PublicationId) -> Option<Publication>
+    ensures { result ≡ known_of publications.now id }
+{
+    let i = id.0 as usize;
+    if publications.len() <= i {
+        return None;
+    }
+    Some(publications[i])
+}
+
+// The publication that is visible on a port.
+pub fn port_place(publications: &[Publication], port: Port) -> Option<usize>
+    ensures { result ≡ place_of (visible_on port) publications.now }
+{
+    place(publications, &VisibleOn(port))
 }
 
 // The first retained publication in a slot.
-pub fn slot_place(publications: [Publication; 96], count: usize, slot: u64) -> Place
-    requires { count ≤ 96 }
-    ensures { result ≡ place_of (retained_in slot) (take count publications) }
+pub fn slot_place(publications: &[Publication], slot: u64) -> Option<usize>
+    ensures { result ≡ place_of (retained_in slot) publications.now }
 {
-    let mut i: usize = 0;
-    while i < count {
-        let e = publications[i];
-        if records::holds_slot(e, slot) {
-            return Place::At(i);
-        }
-        i += 1;
-    }
-    Place::Nowhere
+    place(publications, &RetainedIn(slot))
 }
 
 // The active lease with an identifier.
-pub fn lease_place(leases: [Lease; 128], active: usize, lease: LeaseId) -> Place
-    requires { (active ≤ 128) × Rising (take active leases) }
-    ensures { result ≡ place_of (is_lease lease) (take active leases) }
+pub fn lease_place(leases: &[Lease], lease: LeaseId) -> Option<usize>
+    requires { Rising leases.now }
+    ensures { result ≡ place_of (is_lease lease) leases.now }
 {
-    let mut i: usize = 0;
-    while i < active {
-        let l = leases[i];
-        if records::has_id(l, lease) {
-            return Place::At(i);
-        }
-        i += 1;
-    }
-    Place::Nowhere
+    place(leases, &Named(lease))
 }
 
 // The first active lease that names a publication.
-pub fn reliance_place(leases: [Lease; 128], active: usize, id: PublicationId) -> Place
-    requires { active ≤ 128 }
-    ensures { result ≡ place_of (names id) (take active leases) }
+pub fn reliance_place(leases: &[Lease], id: PublicationId) -> Option<usize>
+    ensures { result ≡ place_of (names id) leases.now }
 {
-    let mut i: usize = 0;
-    while i < active {
-        let l = leases[i];
-        if records::names_publication(l, id) {
-            return Place::At(i);
-        }
-        i += 1;
-    }
-    Place::Nowhere
+    place(leases, &Naming(id))
 }

@@ -1,25 +1,23 @@
 -- `op_at` meets its contract: at each turn the rows from this one on decide.
 -- Assumes nothing.
-use native.Mathlib.Omega.{arith}
-use Rattle.text.proofs.OpTurns.{rows_start, rows_end, row_wrong, row_unfinished, row_found_here}
+use Rattle.std.proofs.Common.{arith, rules}
+use Rattle.text.proofs.OpRows.{ops_ordered}
+use Rattle.text.proofs.OpTurns.{rows_start, rows_end, row_wrong, row_decides}
 use Rattle.text.proofs.op_at.Goals as goal
+use Rattle.text.proofs.op_at.Goals.{in-Err-Wrong, in_default, in_default-2}
 
-pub loop-row-init : goal.loop-row-init
-loop-row-init c =
+pub loop-op-init : goal.loop-op-init
+loop-op-init c =
     rows_start _ _
 
-pub returns-in-Unfinished : goal.returns-in-Unfinished
-returns-in-Unfinished c =
-    row_unfinished c.loop-row.invariant (omega arith) _ c.op_row.ensures c.in-Unfinished.is
+pub returns-then-not-matches : goal.returns-then-not-matches
+returns-then-not-matches c =
+    row_decides c.loop-op.invariant (omega arith) _ (rw (ops_ordered _ c.loop-op.op-index c.loop-op-test.true) at c.op_row-answer.ensures) (λ e. search rules)
 
-pub returns-in-Row : goal.returns-in-Row
-returns-in-Row c =
-    row_found_here c.loop-row.invariant (omega arith) _ c.op_row.ensures _ _ c.in-Row.is
-
-pub loop-row-preserved : goal.loop-row-preserved
-loop-row-preserved c =
-    row_wrong c.loop-row.invariant (omega arith) _ c.op_row.ensures c.in-Wrong.is
+pub loop-op-preserved : goal.loop-op-preserved
+loop-op-preserved c =
+    row_wrong c.loop-op.invariant (omega arith) _ (rw (ops_ordered _ c.loop-op.op-index c.loop-op-test.true) at c.op_row-answer.ensures) (search rules)
 
 pub returns : goal.returns
 returns c =
-    rows_end c.loop-row.invariant (omega arith)
+    rows_end c.loop-op.invariant (omega arith)

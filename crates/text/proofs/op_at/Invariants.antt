@@ -1,10 +1,6 @@
--- What each loop of `op_at` keeps, and what falls.
-use Prim.Native.Nat.{◌-◌}
+-- What the loop of `op_at` keeps.
 use Rattle.text.proofs.OpTurns.{Passed}
 use Rattle.text.proofs.op_at.Given as goal
 
-abbrev pub invariant-loop-row : goal.invariant-loop-row
-invariant-loop-row l = Passed l.s l.at l.row
-
-abbrev pub decreases-loop-row : goal.decreases-loop-row
-decreases-loop-row l = 11 - l.row
+abbrev pub invariant-loop-op : goal.invariant-loop-op
+invariant-loop-op l = Passed l.s l.at l.op-index

@@ -6,7 +6,7 @@ use Rattle.text.proofs.read_value.Goals as goal
 
 pub loop-i-init : goal.loop-i-init
 loop-i-init c =
-    scan_starts _ _ _
+    scan_starts _ _ _ _ (omega arith)
 
 pub returns-then-n-eq0 : goal.returns-then-n-eq0
 returns-then-n-eq0 c =
@@ -39,7 +39,7 @@ returns-then-lim-d-2 c =
 pub loop-i-preserved : goal.loop-i-preserved
 loop-i-preserved c =
     scan_goes_on c.loop-i.invariant (omega arith) (λ z. omega arith)
-    (record { room = omega arith; digit = (omega arith, omega arith); fits = omega arith }) _ (omega arith)
+    (record { room = omega arith; digit = (omega arith, omega arith); fits = omega arith }) _ _ (omega arith) (omega arith)
 
 pub returns : goal.returns
 returns c =

@@ -8,12 +8,16 @@ pub loop-j-init : goal.loop-j-init
 loop-j-init c =
     compare_starts _ _ _
 
-pub returns-then-s-i : goal.returns-then-s-i
-returns-then-s-i c =
+pub overflow_add-at : goal.overflow_add-at
+overflow_add-at c =
+    omega arith
+
+pub returns-then-s-at : goal.returns-then-s-at
+returns-then-s-at c =
     compare_ends c.loop-j.invariant (omega arith) (omega arith)
 
-pub returns-then-s-i-2 : goal.returns-then-s-i-2
-returns-then-s-i-2 c =
+pub returns-then-s-at-2 : goal.returns-then-s-at-2
+returns-then-s-at-2 c =
     compare_stops c.loop-j.invariant (omega arith) (omega arith) (λ z. omega arith)
 
 pub loop-j-preserved : goal.loop-j-preserved

@@ -1,7 +1,10 @@
 -- `report` meets its contract: an output that is too short is left, a trace that is too long is told, and any other is run and told.
 -- Assumes nothing.
+use mathlib.Core.Path.{sym}
 use native.Mathlib.Omega.{arith}
-use Rattle.trace.proofs.Reports.{refuses, tells_long, empty_sound_columns, line_has_room, tells_run}
+use lib.Seq.{length-take-le}
+use Rattle.trace.specs.Report.{report_room}
+use Rattle.trace.proofs.Reports.{refuses, tells_long, line_has_room, tells_run}
 use Rattle.trace.proofs.report.Goals as goal
 
 pub returns-then-out-lt65600 : goal.returns-then-out-lt65600
@@ -10,16 +13,16 @@ returns-then-out-lt65600 c =
 
 pub returns-then-trace-gt65536 : goal.returns-then-trace-gt65536
 returns-then-trace-gt65536 c =
-    let p = tells_long c.args.trace.now c.args.out.now (omega arith) (omega arith) c.put_stop_line.result c.put_stop_line.new.out c.put_stop_line.ensures in record { tells = p.0; counts = p.1 }
+    let p = tells_long c.args.trace.now c.args.out.now (omega arith) (omega arith) c.from.result c.from.ensures c.put_stop_line.result c.put_stop_line.new.out c.put_stop_line.ensures in record { tells = p.0; counts = p.1 }
 
-pub run-r-requires : goal.run-r-requires
-run-r-requires c =
-    (empty_sound_columns c.args.trace.now c.args.out.now (omega arith) c.new.result c.new.ensures, omega arith)
+pub slice_bounds-run-end-2 : goal.slice_bounds-run-end-2
+slice_bounds-run-end-2 c =
+    sym (length-take-le report_room c.args.out.now (omega arith))
 
 pub put_stop_line_at-requires : goal.put_stop_line_at-requires
 put_stop_line_at-requires c =
-    line_has_room c.args.trace.now c.args.out.now c.if-out-lt65600.false c.new.result c.new.ensures c.run-r.result c.run-r.new.out c.run-r.ensures
+    line_has_room c.args.trace.now c.args.out.now c.if-out-lt65600.false c.empty.result.store c.empty.ensures c.run-r.result c.run-r.new.out c.run-r.ensures
 
 pub returns : goal.returns
 returns c =
-    let p = tells_run c.args.trace.now c.args.out.now c.if-out-lt65600.false c.new.result c.new.ensures c.run-r.result c.run-r.new.out c.run-r.ensures c.if-trace-gt65536.false c.put_stop_line_at.result c.put_stop_line_at.new.out c.put_stop_line_at.ensures in record { tells = p.0; counts = p.1 }
+    let p = tells_run c.args.trace.now c.args.out.now c.if-out-lt65600.false c.empty.result.store c.empty.ensures c.run-r.result c.run-r.new.out c.run-r.ensures c.if-trace-gt65536.false c.from-2.result c.from-2.ensures c.put_stop_line_at.result c.put_stop_line_at.new.out c.put_stop_line_at.ensures in record { tells = p.0; counts = p.1 }

@@ -1,11 +1,16 @@
--- `is_sound` meets its contract: the test does not read the domain.
+-- `is_sound` meets its contract: no clause reads the domain.
 -- Assumes nothing.
-use mathlib.Core.Path.{◌∙◌}
-use Rattle.rules.specs.Limits.{box}
-use Rattle.store.specs.Columns.{columns_of}
-use Rattle.store.proofs.Guard.{domain_unread}
+use mathlib.Core.Path.{sym, ◌∙◌}
+use Rattle.rules.specs.SoundTest.{registry_test, store_test}
+use Rattle.store.proofs.Guard.{sound_when}
 use Rattle.store.proofs.inner.is_sound.Goals as goal
 
-pub returns : goal.returns
-returns c =
-    c.is_store_sound.ensures ∙ domain_unread box (columns_of c.args.store)
+pub returns-clause-test : goal.returns-clause-test
+unfolding store_test registry_test
+returns-clause-test c =
+    c.is_store_sound.ensures
+
+pub returns-clause-sound : goal.returns-clause-sound
+unfolding store_test registry_test
+returns-clause-sound c =
+    λ t. sound_when _ (sym c.is_store_sound.ensures ∙ t)

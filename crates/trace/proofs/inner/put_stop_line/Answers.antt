@@ -1,24 +1,16 @@
 -- `put_stop_line` meets its contract: stop=, the number, a blank, the name and the line feed, one after the other.
 -- Assumes nothing.
 use native.Mathlib.Omega.{arith}
-use Rattle.trace.proofs.StopLine.{number_room, blank_place, blank_below, name_start, name_room, feed_place, feed_below, line_put, line_long}
+use Rattle.trace.proofs.StopLine.{number_room, blank_below, name_start, name_room, feed_below, line_put}
 use Rattle.trace.proofs.inner.put_stop_line.Goals as goal
 
 pub put_number-b-requires : goal.put_number-b-requires
 put_number-b-requires c =
     number_room c.args.n c.args.out.now c.requires c.put-a.ensures
 
-pub overflow_add-c : goal.overflow_add-c
-overflow_add-c c =
-    omega (arith, blank_place c.args.n c.args.out.now c.requires c.put-a.ensures c.put_number-b.ensures)
-
 pub bounds-out-c : goal.bounds-out-c
 bounds-out-c c =
     blank_below c.args.n c.args.out.now c.requires c.put-a.ensures c.put_number-b.ensures
-
-pub overflow_add-d : goal.overflow_add-d
-overflow_add-d c =
-    omega (arith, blank_place c.args.n c.args.out.now c.requires c.put-a.ensures c.put_number-b.ensures)
 
 pub slice_bounds-put_name-count : goal.slice_bounds-put_name-count
 slice_bounds-put_name-count c =
@@ -32,21 +24,9 @@ pub put_name-e-requires : goal.put_name-e-requires
 put_name-e-requires c =
     name_room c.args.n c.args.out.now c.requires c.put-a.ensures c.put_number-b.ensures
 
-pub overflow_add-f : goal.overflow_add-f
-overflow_add-f c =
-    omega (arith, feed_place c.args.n c.args.out.now c.requires c.put-a.ensures c.put_number-b.ensures c.put_name-e.ensures)
-
 pub bounds-out-f : goal.bounds-out-f
 bounds-out-f c =
     feed_below c.args.n c.args.out.now c.requires c.put-a.ensures c.put_number-b.ensures c.put_name-e.ensures
-
-pub overflow_add-result : goal.overflow_add-result
-overflow_add-result c =
-    omega (arith, feed_place c.args.n c.args.out.now c.requires c.put-a.ensures c.put_number-b.ensures c.put_name-e.ensures)
-
-pub shape_of-out : goal.shape_of-out
-shape_of-out c =
-    line_long c.args.n c.args.out.now c.requires c.put-a.ensures c.put_number-b.ensures c.put_name-e.ensures
 
 pub returns : goal.returns
 returns c =

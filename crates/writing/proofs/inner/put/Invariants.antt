@@ -1,11 +1,7 @@
--- What each loop of `put` keeps, and what falls.
-use Prim.Native.Nat.{◌-◌}
-use lib.ListN.{length}
-use Rattle.writing.proofs.Written.{Copied}
+-- What the loop of `put` keeps: the first bytes of the word stand at the start of the output.
+use Rattle.std.proofs.Common.{◌≡◌, length, take}
+use Rattle.writing.specs.Written.{over}
 use Rattle.writing.proofs.inner.put.Given as goal
 
 abbrev pub invariant-loop-j : goal.invariant-loop-j
-invariant-loop-j l = Copied l.initial.out l.w l.out l.j
-
-abbrev pub decreases-loop-j : goal.decreases-loop-j
-decreases-loop-j l = length l.w - l.j
+invariant-loop-j l = (l.out ≡ over (take l.j l.w) l.initial.out) × (length l.out ≡ length l.initial.out)

@@ -1,33 +1,19 @@
--- `reclaim_verdict` meets its contract: an identifier that was given out leaves it to its record, and that to the leases.
+-- `reclaim_verdict` meets its contract: an identifier that was given out leaves it to the record, and then to the leases.
 -- Assumes nothing.
-use native.Mathlib.Omega.{arith}
-use borrow.Author.Rules.{rules}
-use Rattle.lists.proofs.Scan.{length-of_map}
 use Rattle.rules.specs.Limits.{box}
-use Rattle.columns.specs.Columns.{columns_of}
-use Rattle.columns.proofs.Decisions.{is_unknown, stands, reclaim_stopped, reclaim_relies}
+use Rattle.columns.specs.Columns.{table_of}
+use Rattle.columns.proofs.Verdicts.{not_known}
+use Rattle.columns.proofs.Decisions.{stands, reclaim_stopped, reclaim_relies}
 use Rattle.columns.proofs.inner.rows.reclaim_verdict.Goals as goal
 
-pub returns-then-count-i : goal.returns-then-count-i
-returns-then-count-i c =
-    rw (is_unknown c.args.count 96 c.args.publications c.requires.0 (search (rules, length-of_map)) c.if-count-i.true)
+pub returns-in_default : goal.returns-in_default
+returns-in_default c =
+    rw (not_known _ _ c.known.ensures c.in_default.is)
 
-pub offset_bounds-publications-i : goal.offset_bounds-publications-i
-offset_bounds-publications-i c =
-    omega (arith, c.requires.0)
+pub returns-in-Err : goal.returns-in-Err
+returns-in-Err c =
+    reclaim_stopped box (stands (table_of c.args.publications.now c.args.leases.now 0) c.args.id c.known.ensures c.in-Some.is) c.reclaim_verdict.ensures c.in-Err.is
 
-pub bounds-publications-i : goal.bounds-publications-i
-bounds-publications-i c =
-    omega (arith, c.requires.0)
-
-pub reliance_verdict-requires : goal.reliance_verdict-requires
-reliance_verdict-requires c =
-    c.requires.1
-
-pub returns-in-Stop : goal.returns-in-Stop
-returns-in-Stop c =
-    reclaim_stopped box (stands (columns_of c.args.publications c.args.count c.args.leases c.args.active 0) 96 c.args.id c.requires.0 (search (rules, length-of_map)) c.if-count-i.false) c.reclaim_verdict.ensures c.in-Stop.is
-
-pub returns-in-Pass : goal.returns-in-Pass
-returns-in-Pass c =
-    reclaim_relies box (stands (columns_of c.args.publications c.args.count c.args.leases c.args.active 0) 96 c.args.id c.requires.0 (search (rules, length-of_map)) c.if-count-i.false) c.reclaim_verdict.ensures c.in-Pass.is c.reliance_verdict.ensures
+pub returns-in-Ok : goal.returns-in-Ok
+returns-in-Ok c =
+    reclaim_relies box (stands (table_of c.args.publications.now c.args.leases.now 0) c.args.id c.known.ensures c.in-Some.is) c.reclaim_verdict.ensures c.in-Ok.is c.reliance_verdict.ensures

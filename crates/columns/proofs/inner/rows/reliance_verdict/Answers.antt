@@ -3,14 +3,10 @@
 use Rattle.columns.proofs.Verdicts.{none_there, one_there}
 use Rattle.columns.proofs.inner.rows.reliance_verdict.Goals as goal
 
-pub reliance_place-requires : goal.reliance_place-requires
-reliance_place-requires c =
-    c.requires
+pub returns-in-None : goal.returns-in-None
+returns-in-None c =
+    rw (none_there _ _ c.reliance_place.ensures c.in-None.is)
 
-pub returns-in-Nowhere : goal.returns-in-Nowhere
-returns-in-Nowhere c =
-    rw (none_there _ _ c.reliance_place.ensures c.in-Nowhere.is)
-
-pub returns-in-At : goal.returns-in-At
-returns-in-At c =
-    rw (one_there _ _ c.reliance_place.ensures c.in-At.is)
+pub returns-in-Some : goal.returns-in-Some
+returns-in-Some c =
+    rw (one_there _ _ c.reliance_place.ensures c.in-Some.is)

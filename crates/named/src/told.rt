@@ -1,0 +1,270 @@
+// A command and a response in words: the op, and the keys by name with their values. Keys are held by the codes of the crate text, 1 to 9,
+// and 0 where there is no key, since the clauses speak of the rows of its key table.
+ghost use Rattle.std.specs.Prelude.{◌≡◌, ◌++◌, ◌∷◌, []};
+ghost use Rattle.lists.specs.Letters.{letters};
+ghost use Rattle.text.specs.Decimal.{line_feed};
+ghost use Rattle.text.specs.Ops.{op_line_of, row_of_op};
+ghost use Rattle.blocks.specs.Blocks.{row_of, values_of};
+ghost use Rattle.blocks.specs.Answers.{value_lines};
+ghost use Rattle.named.specs.Told.{key_values};
+
+use rules::{Command, Response};
+use std::fmt;
+use text::{Op, key_code};
+
+// A command in words: the op, at least so wide, and the keys of its row with their values. `sign` joins a key and its value, and `between`
+// joins two of those.
+#[derive(Clone, Copy)]
+pub struct InWords<'a> {
+    pub command: Command,
+    pub width: usize,
+    pub sign: &'a str,
+    pub between: &'a str,
+}
+
+impl fmt::Display for InWords<'_> {
+    fn fmt<W: fmt::Write>(&self, f: &mut fmt::Formatter<W>) -> fmt::Result {
+        let InWords {
+            command,
+            width,
+            sign,
+            between,
+        } = *self;
+        let request = asked(command);
+        write!(
+            f,
+            "{:<width$} {}",
+            word(request.op),
+            request.pairs(sign, between)
+        )
+    }
+}
+
+// What a response gives: its keys with their values, joined in the same way. Of a refusal and of Done that is nothing.
+#[derive(Clone, Copy)]
+pub struct Given<'a> {
+    pub response: Response,
+    pub sign: &'a str,
+    pub between: &'a str,
+}
+
+impl fmt::Display for Given<'_> {
+    fn fmt<W: fmt::Write>(&self, f: &mut fmt::Formatter<W>) -> fmt::Result {
+        let Given {
+            response,
+            sign,
+            between,
+        } = *self;
+        write!(f, "{}", answered(response).pairs(sign, between))
+    }
+}
+
+// The keys' words by code.
+const KEYS: [&str; 10] = [
+    "",
+    "owner",
+    "generation",
+    "port",
+    "payload",
+    "id",
+    "lease",
+    "answer",
+    "revision",
+    "count",
+];
+
+// The op's word, as its line has it.
+#[tactic(auto, unfolding(text::specs::Ops::op_line_of))]
+fn word(op: Op) -> &'static str
+    ensures { letters "op=" ++ result.now ++ line_feed ∷ [] ≡ op_line_of (row_of_op op) }
+{
+    match op {
+        Op::Publish => "publish",
+        Op::Adopt => "adopt",
+        Op::Acquire => "acquire",
+        Op::Release => "release",
+        Op::Revoke => "revoke",
+        Op::Replace => "replace",
+        Op::Reclaim => "reclaim",
+        Op::Read => "read",
+        Op::Observe => "observe",
+        Op::Resolve => "resolve",
+        Op::Count => "count",
+    }
+}
+
+// Keys with their values, up to the first code 0.
+#[derive(Clone, Copy)]
+struct Pairs<'a> {
+    keys: [u8; 5],
+    values: [u64; 5],
+    sign: &'a str,
+    between: &'a str,
+}
+
+impl fmt::Display for Pairs<'_> {
+    fn fmt<W: fmt::Write>(&self, f: &mut fmt::Formatter<W>) -> fmt::Result {
+        for (k, (code, value)) in self.keys.iter().zip(&self.values).enumerate() {
+            if *code == 0 {
+                break;
+            }
+            if k != 0 {
+                write!(f, "{}", self.between)?;
+            }
+            let key = KEYS.get(usize::from(*code)).copied().unwrap_or("");
+            write!(f, "{key}{}{value}", self.sign)?;
+        }
+        Ok(())
+    }
+}
+
+// A command's op, and the values of its keys in order; 0 where there is no key.
+#[derive(Clone, Copy)]
+struct Request {
+    op: Op,
+    values: [u64; 5],
+}
+
+impl Request {
+    // The values with the op's keys, in the order of the key table.
+    fn pairs<'a>(self, sign: &'a str, between: &'a str) -> Pairs<'a>
+        ensures { result.values ≡ self.values }
+    {
+        let Request { op, values } = self;
+        let keys = [0, 1, 2, 3, 4].map(|k| key_code(op as usize, k));
+        Pairs {
+            keys,
+            values,
+            sign,
+            between,
+        }
+    }
+}
+
+// The keys of a response's values, and the values in order; 0 where there is no key.
+#[derive(Clone, Copy)]
+struct Answer {
+    keys: [u8; 5],
+    values: [u64; 5],
+}
+
+impl Answer {
+    // The values with their keys.
+    fn pairs<'a>(self, sign: &'a str, between: &'a str) -> Pairs<'a>
+        ensures { (result.keys ≡ self.keys) × (result.values ≡ self.values) }
+    {
+        let Answer { keys, values } = self;
+        Pairs {
+            keys,
+            values,
+            sign,
+            between,
+        }
+    }
+}
+
+// What a command asks.
+fn asked(command: Command) -> Request
+    ensures { (row_of_op result.op ≡ row_of command) × (result.values ≡ values_of command) }
+{
+    match command {
+        Command::Publish {
+            owner,
+            generation,
+            port,
+            payload,
+        } => Request {
+            op: Op::Publish,
+            values: [owner.0, generation, port.0 as u64, payload, 0],
+        },
+        Command::Adopt {
+            id,
+            owner,
+            generation,
+        } => Request {
+            op: Op::Adopt,
+            values: [id.0, owner.0, generation, 0, 0],
+        },
+        Command::Acquire {
+            id,
+            owner,
+            generation,
+        } => Request {
+            op: Op::Acquire,
+            values: [id.0, owner.0, generation, 0, 0],
+        },
+        Command::Release { lease } => Request {
+            op: Op::Release,
+            values: [lease.0, 0, 0, 0, 0],
+        },
+        Command::Revoke { id } => Request {
+            op: Op::Revoke,
+            values: [id.0, 0, 0, 0, 0],
+        },
+        Command::Replace {
+            id,
+            owner,
+            generation,
+            payload,
+        } => Request {
+            op: Op::Replace,
+            values: [id.0, owner.0, generation, payload, 0],
+        },
+        Command::Reclaim { id } => Request {
+            op: Op::Reclaim,
+            values: [id.0, 0, 0, 0, 0],
+        },
+        Command::Read { lease } => Request {
+            op: Op::Read,
+            values: [lease.0, 0, 0, 0, 0],
+        },
+        Command::Observe { id } => Request {
+            op: Op::Observe,
+            values: [id.0, 0, 0, 0, 0],
+        },
+        Command::Resolve { port } => Request {
+            op: Op::Resolve,
+            values: [port.0 as u64, 0, 0, 0, 0],
+        },
+        Command::Count => Request {
+            op: Op::Count,
+            values: [0, 0, 0, 0, 0],
+        },
+    }
+}
+
+// What a response gives; a refusal gives nothing. Keys: 4 payload, 5 id, 6 lease, 8 revision, 9 count.
+fn answered(response: Response) -> Answer
+    ensures { key_values result.keys result.values ≡ value_lines response }
+{
+    match response {
+        Response::Refused(_) | Response::Returned(_, _) | Response::Done => Answer {
+            keys: [0; 5],
+            values: [0; 5],
+        },
+        Response::Id(p) => Answer {
+            keys: [5, 0, 0, 0, 0],
+            values: [p.0, 0, 0, 0, 0],
+        },
+        Response::Lease(i) => Answer {
+            keys: [6, 0, 0, 0, 0],
+            values: [i.0, 0, 0, 0, 0],
+        },
+        Response::Handle(h) => Answer {
+            keys: [4, 0, 0, 0, 0],
+            values: [h, 0, 0, 0, 0],
+        },
+        Response::Read(x) => Answer {
+            keys: [5, 8, 4, 0, 0],
+            values: [x.id.0, x.revision, x.handle, 0, 0],
+        },
+        Response::Observed(x) => Answer {
+            keys: [8, 4, 0, 0, 0],
+            values: [x.revision, x.handle, 0, 0, 0],
+        },
+        Response::Count(n) => Answer {
+            keys: [9, 0, 0, 0, 0],
+            values: [n, 0, 0, 0, 0],
+        },
+    }
+}

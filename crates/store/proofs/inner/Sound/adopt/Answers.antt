@@ -1,0 +1,10 @@
+-- `adopt` meets its contract: the registry's call, beside the same cells.
+-- Assumes nothing.
+use mathlib.Core.Path.{sym, ap}
+use Rattle.store.specs.Answers.{answered_of}
+use Rattle.store.proofs.Sharing.{shared_adopt}
+use Rattle.store.proofs.inner.Sound.adopt.Goals as goal
+
+pub returns : goal.returns
+returns c =
+    rw (c.beside_cells.ensures, c.adopt.ensures, c.registry.ensures) (sym (ap answered_of (shared_adopt c.args.self.is _ _ _)))
