@@ -2,7 +2,7 @@
 //
 // Every call tests the registry first: one that isn't sound is answered BadTable, and a command gives it back exactly as it came.
 // Any other refusal gives the registry back unchanged as well.
-// The test stands at the head of each call: of a closure with the rest of the call in it the check finds no contract.
+// The test stands at the head of each call. With the rest of a call in a closure, which one function takes, the check proves no call's contract.
 //
 // Nothing that an entry point reaches calls a function of the library: docs/DESIGN-PASS.md says why, and what stands in its place.
 #![tactic(auto)]

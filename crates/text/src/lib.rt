@@ -1,8 +1,9 @@
 // The pieces of the trace text, read: values, fixed words, op lines and key lines.
 // What each text is stands in specs/, that these functions read exactly that in proofs/. Blocks and runs, made of these pieces, are not here.
 //
-// A reader is an input and a cursor (docs/DECISIONS.md): it looks at s from the place at on; past the end of s nothing stands there. It answers what it read and the place after it, or why
-// nothing was read: Unfinished, where further bytes could still make the text right; Wrong, where none could.
+// A reader takes an input and a place (docs/DECISIONS.md): it looks at s from the place at on; past the end of s nothing stands there. It
+// answers what it read and the place after it, or why nothing was read: Unfinished, where further bytes could still make the text right;
+// Wrong, where none could.
 //
 //     key_line_at(b"id=007\n", 0, 5)  answers  Ok((7, 7))
 //
@@ -148,7 +149,8 @@ pub fn op_at(s: &[u8], at: usize) -> Result<(Op, usize), Misread>
     Err(Misread::Wrong)
 }
 
-// The form that docs/DECISIONS.md fixes: an array of arrays of key codes. The keys of each command by code, in the order of its lines: 1 owner, 2 generation, 3 port, 4 payload, 5 id, 6 lease; 0 no key.
+// The keys of each command by code, in the order of its lines: 1 owner, 2 generation, 3 port, 4 payload, 5 id, 6 lease; 0 no key. An array of
+// arrays of key codes, as docs/DECISIONS.md fixes it.
 const KEYS: [[u8; 5]; 11] = [
     [1, 2, 3, 4, 0],
     [5, 1, 2, 0, 0],

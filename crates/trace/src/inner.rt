@@ -16,7 +16,8 @@ use store::inner::Sound;
 use store::inner::any::apply;
 use writing::inner::{put, put_name, put_number};
 
-// Block after block, with all of the output for the answers. A turn moves by a whole block, so no index is counted here. The store stays sound, so no command tests it again.
+// Block after block, with all of the output for the answers. A turn moves by a whole block, so no index is counted here. The store stays
+// sound, so no command tests it again.
 pub fn run(sound: Sound, trace: &[u8], out: &mut [u8]) -> Stopped
     ensures { ComesTo (laid box (run_sound box (length out.old) trace.now (used (columns_of sound.store)))) result out.old out.new }
 {
@@ -71,7 +72,8 @@ pub fn put_stop_line(out: &mut [u8], n: u64) -> usize
     f + 1
 }
 
-// The same from the place at on: the output's remaining part is lent to the line's writer, as docs/DECISIONS.md fixes it. Answers the place after the line.
+// The same from the place at on: the output's remaining part is lent to the line's writer, as docs/DECISIONS.md fixes it. Answers the
+// place after the line.
 pub fn put_stop_line_at(out: &mut [u8], at: usize, n: u64) -> usize
     requires { at + line_room ≤ length out.old }
     ensures { (result ≡ at + length (stop_line n)) × (out.new ≡ over_from at (stop_line n) out.old) }
