@@ -5,7 +5,7 @@
 // come back. Of the broken ones nothing is proved but that they are safe and end; that nobody at fault is ours is proved.
 #![tactic(auto)]
 
-ghost use Rattle.std.specs.Prelude.{◌≡◌};
+ghost use Rattle.std.specs.Prelude.{◌≡◌, IsNone};
 ghost use Rattle.store.specs.Columns.{columns_of};
 ghost use Rattle.store.specs.Answers.{applied_of};
 ghost use Rattle.broken.specs.declared.Fault.TheVariants.{Nobody};
@@ -46,13 +46,15 @@ pub fn play(
 ) -> Answered<Response, PublicationStore>
     ensures { fault ≡ Nobody → result ≡ applied_of (columns_of store) command }
 {
+    if let Some(answer) = refused_at_once(fault, &store, command) {
+        return Answered {
+            answer,
+            table: store,
+        };
+    }
     let right = store.apply(command);
     match fault {
-        Fault::Nobody => right,
-        Fault::RefusesEverything => Answered {
-            answer: unknown(command),
-            table: store,
-        },
+        Fault::Nobody | Fault::RefusesEverything | Fault::TestsRetained => right,
         Fault::SameHandle => Answered {
             answer: same_handle(right.answer),
             table: right.table,
@@ -63,7 +65,6 @@ pub fn play(
             answer: invented(right.answer, right.table),
             table: right.table,
         },
-        Fault::TestsRetained => tests_retained(store, command, right),
         Fault::SixForNeverGiven => Answered {
             answer: six_for_never_given(command, right.answer),
             table: right.table,
@@ -76,7 +77,17 @@ pub fn play(
     }
 }
 
-// Faults of the answer: the store is the right one, or the one before where every command is refused.
+// Faults of a test: the command is refused, and nothing is carried out.
+
+fn refused_at_once(fault: Fault, store: &PublicationStore, command: Command) -> Option<Response>
+    ensures { fault ≡ Nobody → IsNone result }
+{
+    match fault {
+        Fault::RefusesEverything => Some(unknown(command)),
+        Fault::TestsRetained => tests_retained(store, command),
+        _ => None,
+    }
+}
 
 fn unknown(command: Command) -> Response {
     match command {
@@ -86,6 +97,24 @@ fn unknown(command: Command) -> Response {
         _ => Response::Refused(Refusal::Unknown),
     }
 }
+
+fn tests_retained(store: &PublicationStore, command: Command) -> Option<Response> {
+    match command {
+        Command::Publish { port, payload, .. }
+            if store.registry.count < 96 && is_occupied(store, port) => {
+            Some(Response::Returned(Refusal::Conflict, payload))
+        }
+        _ => None,
+    }
+}
+
+// Whether a retained publication has the port, visible or not.
+fn is_occupied(store: &PublicationStore, port: Port) -> bool {
+    store.registry.publications.iter().any(|publication| publication.retained
+        && publication.port == port)
+}
+
+// Faults of the answer: the store is the right one.
 
 fn same_handle(right: Response) -> Response {
     match right {
@@ -159,29 +188,4 @@ fn leaves_handle(
         }
     }
     right
-}
-
-// A fault of a test.
-
-fn tests_retained(
-    store: PublicationStore,
-    command: Command,
-    right: Answered<Response, PublicationStore>,
-) -> Answered<Response, PublicationStore> {
-    match command {
-        Command::Publish { port, payload, .. }
-            if store.registry.count < 96 && is_occupied(&store, port) => {
-            Answered {
-                answer: Response::Returned(Refusal::Conflict, payload),
-                table: store,
-            }
-        }
-        _ => right,
-    }
-}
-
-// Whether a retained publication has the port, visible or not.
-fn is_occupied(store: &PublicationStore, port: Port) -> bool {
-    store.registry.publications.iter().any(|publication| publication.retained
-        && publication.port == port)
 }

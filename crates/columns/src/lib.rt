@@ -47,21 +47,21 @@ pub fn is_sound(
         let port = e.port;
         let at_port = records::mark_of(port.0 as u64);
         let port_mark = ports[at_port];
-        if port_mark & e.visible {
+        if records::is_both(port_mark, e.visible) {
             if let Some(_) = search::port_place(&publications[..i], port) {
                 return false;
             }
         }
-        ports[at_port] = e.visible | port_mark;
+        ports[at_port] = records::is_either(e.visible, port_mark);
         let slot = e.slot;
         let at_slot = records::mark_of(slot);
         let slot_mark = slots[at_slot];
-        if slot_mark & e.retained {
+        if records::is_both(slot_mark, e.retained) {
             if let Some(_) = search::slot_place(&publications[..i], slot) {
                 return false;
             }
         }
-        slots[at_slot] = e.retained | slot_mark;
+        slots[at_slot] = records::is_either(e.retained, slot_mark);
     }
     let mut least: u64 = 0;
     for l in &leases[..active] {

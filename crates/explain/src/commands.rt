@@ -1,7 +1,10 @@
 // The blocks of a run, one to a line: its number, what was asked, and the answer.
+ghost use Rattle.std.specs.Prelude.{Some};
+ghost use Rattle.explain.specs.Told.{told_text};
+
 use blocks::block_at;
 use named::Named;
-use named::told::{Given, InWords};
+use named::told::{Given, InWords, number};
 use rules::{Command, Response};
 use std::fmt::InlineText;
 use std::{fmt, io};
@@ -12,21 +15,23 @@ use store::PublicationStore;
 struct Told(Response);
 
 impl fmt::Display for Told {
+    ghost output = { λ t. Some (told_text t.0) };
+
     fn fmt<W: fmt::Write>(&self, f: &mut fmt::Formatter<W>) -> fmt::Result {
-        match self.0 {
-            Response::Refused(why) | Response::Returned(why, _) => {
-                write!(f, "REFUSED  {}", Named(u64::from(why)))
-            }
-            Response::Done => write!(f, "done"),
-            response => {
-                let given = Given {
-                    response,
-                    sign: " ",
-                    between: ", ",
-                };
-                write!(f, "done     {given}")
-            }
+        let response = self.0;
+        let number = number(response);
+        if number != 0 {
+            return write!(f, "REFUSED  {}", Named(number));
         }
+        if let Response::Done = response {
+            return write!(f, "done");
+        }
+        let given = Given {
+            response,
+            sign: " ",
+            between: ", ",
+        };
+        write!(f, "done     {given}")
     }
 }
 

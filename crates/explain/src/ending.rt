@@ -1,10 +1,11 @@
 // The end of a run: why it stopped, and what is still retained.
-ghost use Rattle.std.specs.Prelude.{◌≡◌};
+ghost use Rattle.std.specs.Prelude.{◌≡◌, ◌≤◌, take};
 ghost use Rattle.lists.specs.Search.{how_many};
 ghost use Rattle.rules.specs.Conditions.{names};
 
 use columns::records::names_publication;
 use named::Named;
+use registry::PublicationRegistry;
 use rules::{Lease, PublicationId};
 use std::{fmt, io};
 use store::PublicationStore;
@@ -64,10 +65,20 @@ fn tell_publication(
     println!(rt; "  {id:<22}{port:<12}{handle:<22}{leases}")
 }
 
+// The leases that are active: a record that is not in use names publication 0.
+fn active(registry: &PublicationRegistry) -> &[Lease]
+    requires { registry.now.active ≤ 128 }
+    ensures { result.now ≡ take registry.now.active registry.now.leases }
+{
+    &registry.leases[..registry.active]
+}
+
 // A line for each retained publication. Records that are not in use are blank, and not retained.
-fn tell_publications(rt: &impl Print, store: PublicationStore) -> io::Result<()> {
+fn tell_publications(rt: &impl Print, store: PublicationStore) -> io::Result<()>
+    requires { store.registry.active ≤ 128 }
+{
     let registry = store.registry;
-    let leases = registry.leases.get(..registry.active).unwrap_or(&[]);
+    let leases = active(&registry);
     for (i, (publication, handle)) in registry
         .publications
         .iter()

@@ -5,6 +5,7 @@ pub mod Every
 pub mod Column
 pub mod Total
 pub mod Append
+pub mod Numbers
 pub mod Bounds
 pub mod Marks
 pub mod Removal

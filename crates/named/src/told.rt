@@ -1,12 +1,14 @@
 // A command and a response in words: the op, and the keys by name with their values. Keys are held by the codes of the crate text, 1 to 9,
 // and 0 where there is no key, since the clauses speak of the rows of its key table.
-ghost use Rattle.std.specs.Prelude.{◌≡◌, ◌++◌, ◌∷◌, []};
+ghost use Rattle.std.specs.Prelude.{◌≡◌, Some, ◌++◌, ◌∷◌, [], get_or};
 ghost use Rattle.lists.specs.Letters.{letters};
+ghost use Rattle.rules.specs.Responses.{response_number};
 ghost use Rattle.text.specs.Decimal.{line_feed};
-ghost use Rattle.text.specs.Ops.{op_line_of, row_of_op};
-ghost use Rattle.blocks.specs.Blocks.{row_of, values_of};
-ghost use Rattle.blocks.specs.Answers.{value_lines};
-ghost use Rattle.named.specs.Told.{key_values};
+ghost use Rattle.text.specs.Keys.{key_words};
+ghost use Rattle.text.specs.Ops.{op_words, op_line_of, row_of_op};
+ghost use Rattle.blocks.specs.Blocks.{row_of, values_of, keys_of};
+ghost use Rattle.blocks.specs.Answers.{value_lines, ◌is◌};
+ghost use Rattle.named.specs.Told.{key_values, pair_text, pairs_text, words_text};
 
 use rules::{Command, Response};
 use std::fmt;
@@ -23,6 +25,8 @@ pub struct InWords<'a> {
 }
 
 impl fmt::Display for InWords<'_> {
+    ghost output = { λ w. Some (words_text w.width w.sign.now w.between.now w.command) };
+
     fn fmt<W: fmt::Write>(&self, f: &mut fmt::Formatter<W>) -> fmt::Result {
         let InWords {
             command,
@@ -40,6 +44,16 @@ impl fmt::Display for InWords<'_> {
     }
 }
 
+// A response's number: a refusal's own, and 0 where the command is carried out.
+pub fn number(response: Response) -> u64
+    ensures { result ≡ response_number response }
+{
+    match response {
+        Response::Refused(why) | Response::Returned(why, _) => u64::from(why),
+        _ => 0,
+    }
+}
+
 // What a response gives: its keys with their values, joined in the same way. Of a refusal and of Done that is nothing.
 #[derive(Clone, Copy)]
 pub struct Given<'a> {
@@ -49,6 +63,8 @@ pub struct Given<'a> {
 }
 
 impl fmt::Display for Given<'_> {
+    ghost output = { λ g. Some (pairs_text g.sign.now g.between.now (value_lines g.response)) };
+
     fn fmt<W: fmt::Write>(&self, f: &mut fmt::Formatter<W>) -> fmt::Result {
         let Given {
             response,
@@ -59,24 +75,29 @@ impl fmt::Display for Given<'_> {
     }
 }
 
-// The keys' words by code.
-const KEYS: [&str; 10] = [
-    "",
-    "owner",
-    "generation",
-    "port",
-    "payload",
-    "id",
-    "lease",
-    "answer",
-    "revision",
-    "count",
-];
+// A key's word by its code, as its line has it; nothing where there is no key.
+fn key(code: u8) -> &'static str
+    ensures { result.now ≡ get_or key_words code [] }
+{
+    match code {
+        1 => "owner",
+        2 => "generation",
+        3 => "port",
+        4 => "payload",
+        5 => "id",
+        6 => "lease",
+        7 => "answer",
+        8 => "revision",
+        9 => "count",
+        _ => "",
+    }
+}
 
 // The op's word, as its line has it.
 #[tactic(auto, unfolding(text::specs::Ops::op_line_of))]
 fn word(op: Op) -> &'static str
-    ensures { letters "op=" ++ result.now ++ line_feed ∷ [] ≡ op_line_of (row_of_op op) }
+    ensures line { letters "op=" ++ result.now ++ line_feed ∷ [] ≡ op_line_of (row_of_op op) }
+    ensures word { result.now ≡ get_or op_words (row_of_op op) [] }
 {
     match op {
         Op::Publish => "publish",
@@ -93,6 +114,29 @@ fn word(op: Op) -> &'static str
     }
 }
 
+// A key by its word, its sign and its value, after what stands before it.
+#[derive(Clone, Copy)]
+struct Pair<'a> {
+    lead: &'a str,
+    code: u8,
+    sign: &'a str,
+    value: u64,
+}
+
+impl fmt::Display for Pair<'_> {
+    ghost output = { λ p. Some (p.lead.now ++ pair_text p.sign.now (p.code is p.value)) };
+
+    fn fmt<W: fmt::Write>(&self, f: &mut fmt::Formatter<W>) -> fmt::Result {
+        let Pair {
+            lead,
+            code,
+            sign,
+            value,
+        } = *self;
+        write!(f, "{lead}{}{sign}{value}", key(code))
+    }
+}
+
 // Keys with their values, up to the first code 0.
 #[derive(Clone, Copy)]
 struct Pairs<'a> {
@@ -103,16 +147,30 @@ struct Pairs<'a> {
 }
 
 impl fmt::Display for Pairs<'_> {
+    ghost output = { λ p. Some (pairs_text p.sign.now p.between.now (key_values p.keys p.values)) };
+
     fn fmt<W: fmt::Write>(&self, f: &mut fmt::Formatter<W>) -> fmt::Result {
-        for (k, (code, value)) in self.keys.iter().zip(&self.values).enumerate() {
-            if *code == 0 {
-                break;
+        let Pairs {
+            keys,
+            values,
+            sign,
+            between,
+        } = *self;
+        let mut lead = "";
+        for k in 0..5 {
+            let code = keys[k];
+            if code == 0 {
+                return Ok(());
             }
-            if k != 0 {
-                write!(f, "{}", self.between)?;
-            }
-            let key = KEYS.get(usize::from(*code)).copied().unwrap_or("");
-            write!(f, "{key}{}{value}", self.sign)?;
+            let value = values[k];
+            let pair = Pair {
+                lead,
+                code,
+                sign,
+                value,
+            };
+            write!(f, "{pair}")?;
+            lead = between;
         }
         Ok(())
     }
@@ -128,10 +186,17 @@ struct Request {
 impl Request {
     // The values with the op's keys, in the order of the key table.
     fn pairs<'a>(self, sign: &'a str, between: &'a str) -> Pairs<'a>
-        ensures { result.values ≡ self.values }
+        ensures { (result.keys ≡ keys_of (row_of_op self.op)) × (result.values ≡ self.values) × (result.sign.now ≡ sign.now) × (result.between.now ≡ between.now) }
     {
         let Request { op, values } = self;
-        let keys = [0, 1, 2, 3, 4].map(|k| key_code(op as usize, k));
+        let row = op as usize;
+        let keys = [
+            key_code(row, 0),
+            key_code(row, 1),
+            key_code(row, 2),
+            key_code(row, 3),
+            key_code(row, 4),
+        ];
         Pairs {
             keys,
             values,
@@ -151,7 +216,7 @@ struct Answer {
 impl Answer {
     // The values with their keys.
     fn pairs<'a>(self, sign: &'a str, between: &'a str) -> Pairs<'a>
-        ensures { (result.keys ≡ self.keys) × (result.values ≡ self.values) }
+        ensures { (result.keys ≡ self.keys) × (result.values ≡ self.values) × (result.sign.now ≡ sign.now) × (result.between.now ≡ between.now) }
     {
         let Answer { keys, values } = self;
         Pairs {

@@ -11,6 +11,9 @@ use Rattle.rules.specs.declared.Port.{Port}
 use Rattle.rules.specs.declared.Command.TheVariants.{Publish, Adopt, Acquire, Release, Revoke, Replace, Reclaim, Read, Observe, Resolve, Count}
 use Rattle.registry.specs.Answers.{result_of}
 use Rattle.store.specs.Answers.{rejected_of}
+use Rattle.rules.specs.RegistryRows.{adopt, acquire, release, revoke, resolve}
+use Rattle.rules.specs.Table.{taken_by}
+use Rattle.numbers.specs.Calls.{call_values}
 use Rattle.numbers.specs.Registry.{result_values, no_values, id_values, lease_id_values, number_values}
 use Rattle.numbers.specs.Store.{read_values, observe_values}
 
@@ -57,3 +60,20 @@ resolve_says q (done x) = refl
 pub count_says : (a : AnswerTo Count) → result_values number_values (result_of a) ≡ answer_values Count a
 count_says (refused r b) = refl
 count_says (done x) = refl
+
+-- the registry's answer to a call that the store has as well has the values of the store's
+
+pub adopt_shared : (p : PublicationId) (o : Owner) (g : ℕ) (a : AnswerTo (Adopt p o g)) → call_values (adopt p o g) a ≡ answer_values (Adopt p o g) a
+adopt_shared = adopt_says
+
+pub acquire_shared : (p : PublicationId) (o : Owner) (g : ℕ) (a : AnswerTo (Acquire p o g)) → call_values (acquire p (taken_by o g)) a ≡ answer_values (Acquire p o g) a
+acquire_shared = acquire_says
+
+pub release_shared : (i : LeaseId) (a : AnswerTo (Release i)) → call_values (release i) a ≡ answer_values (Release i) a
+release_shared = release_says
+
+pub revoke_shared : (p : PublicationId) (a : AnswerTo (Revoke p)) → call_values (revoke p) a ≡ answer_values (Revoke p) a
+revoke_shared = revoke_says
+
+pub resolve_shared : (q : Port) (a : AnswerTo (Resolve q)) → call_values (resolve q) a ≡ answer_values (Resolve q) a
+resolve_shared = resolve_says

@@ -1,4 +1,6 @@
 // The calls on a registry that is known to be sound: no entry points, but what a crate above builds on.
+//
+// A registry is 9 KB: what is marked inline is compiled into its callers, so that they don't copy one on the way.
 ghost use Rattle.std.specs.Prelude.{◌≡◌, true, Err, is_some, IfSome, take};
 ghost use Rattle.rules.specs.Limits.{box};
 ghost use Rattle.rules.specs.Table.{empty_registry};
@@ -65,6 +67,7 @@ pub fn lease_allocation_count(registry: PublicationRegistry) -> Result<u64, Refu
 
 impl Sound {
     // The registry, if it passes the test for 9.
+    #[inline(always)]
     pub fn tested(registry: PublicationRegistry) -> Option<Sound>
         ensures test { is_some result ≡ registry_test box (columns_of registry) }
         ensures same { IfSome result (λ s. s.registry ≡ registry) }
@@ -76,6 +79,7 @@ impl Sound {
     }
 
     // The publications that were given out.
+    #[inline(always)]
     pub fn publications(&self) -> &[Publication]
         ensures { result.now ≡ take self.now.registry.count self.now.registry.publications }
     {
@@ -83,6 +87,7 @@ impl Sound {
     }
 
     // The leases that are active.
+    #[inline(always)]
     pub fn leases(&self) -> &[Lease]
         ensures { result.now ≡ take self.now.registry.active self.now.registry.leases }
     {
@@ -203,7 +208,7 @@ impl Sound {
         let mut registry = self.registry;
         let at = registry.active;
         let counter = registry.counter;
-        match rows::acquire_verdict(self.publications(), self.leases(), counter, id) {
+        match rows::acquire_verdict(self.publications(), at, counter, id) {
             Err(why) => refused(why, registry),
             Ok(()) => {
                 registry.leases[at] = Lease {

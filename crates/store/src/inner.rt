@@ -1,6 +1,8 @@
 // The calls on a store that is known to be sound: no entry points, but what a crate above builds on.
 //
 // The store's registry answers the calls that the two share.
+//
+// A store is 10 KB: what is marked inline is compiled into its callers, so that they don't copy one on the way.
 ghost use Rattle.std.specs.Prelude.{◌≡◌, true, Err, is_some, IfSome};
 ghost use Rattle.rules.specs.declared.Command.TheVariants.{Publish, Adopt, Acquire, Release, Revoke, Replace, Reclaim, Read, Observe, Resolve, Count};
 ghost use Rattle.rules.specs.Limits.{box};
@@ -40,6 +42,7 @@ fn empty(domain: Option<u64>) -> PublicationStore
 }
 
 // The test for 9. No clause reads the domain.
+#[inline(always)]
 fn is_sound(store: PublicationStore) -> bool
     ensures test { result ≡ store_test box (columns_of store) }
     ensures sound { result ≡ true → StoreColumnsSound box (columns_of store) }
@@ -74,17 +77,26 @@ pub fn rejected<A>(
 }
 
 // What the registry's call answers, and the registry that it leaves beside the store's cells.
+#[inline(always)]
 fn beside_cells<A>(
     call: Answered<A, PublicationRegistry>,
-    mut store: PublicationStore,
+    store: PublicationStore,
 ) -> Answered<A, PublicationStore>
     ensures { result ≡ record { answer = call.answer; table = record { registry = call.table; payloads = store.payloads; revisions = store.revisions } } }
 {
     let Answered { answer, table } = call;
-    store.registry = table;
+    let PublicationStore {
+        payloads,
+        revisions,
+        ..
+    } = store;
     Answered {
         answer,
-        table: store,
+        table: PublicationStore {
+            registry: table,
+            payloads,
+            revisions,
+        },
     }
 }
 
@@ -99,6 +111,7 @@ impl Sound {
     }
 
     // The store, if it passes the test for 9.
+    #[inline(always)]
     pub fn tested(store: PublicationStore) -> Option<Sound>
         ensures test { is_some result ≡ store_test box (columns_of store) }
         ensures same { IfSome result (λ s. s.store ≡ store) }
@@ -110,6 +123,7 @@ impl Sound {
     }
 
     // Its registry is sound as well.
+    #[inline(always)]
     #[tactic(auto, using(rules::proofs::Columns::registry_columns))]
     fn registry(self) -> registry::inner::Sound
         ensures { result.registry ≡ self.store.registry }

@@ -1,6 +1,8 @@
 -- What a run and a report come to, as the code's records.
 -- Assumes nothing.
 use Rattle.std.specs.Prelude.{ℕ, ◌≤◌, ◌≡◌, List, length, take}
+use Rattle.rules.specs.Refusals.{refusal_number, bad_line, no_room}
+use Rattle.rules.specs.declared.Refusal.TheVariants as R
 use Rattle.rules.specs.Columns.{StoreColumns}
 use Rattle.store.specs.Columns.{store_of}
 use Rattle.writing.specs.Written.{over}
@@ -11,13 +13,13 @@ use Rattle.trace.specs.declared.Stop.TheVariants.{End, TooLong, BadTable, BadLin
 use Rattle.trace.specs.declared.Stopped.{Stopped}
 use Rattle.trace.specs.declared.Reported.{Reported}
 
--- document 01's number of a stop
+-- document 01's number of a stop: 0 at the end of the input, a refusal's own, or one that only stops a run
 abbrev pub stop_number : Stop → ℕ
 stop_number End = 0
-stop_number TooLong = 7
-stop_number BadTable = 9
-stop_number BadLine = 11
-stop_number NoRoom = 12
+stop_number TooLong = refusal_number R.Capacity
+stop_number BadTable = refusal_number R.BadTable
+stop_number BadLine = bad_line
+stop_number NoRoom = no_room
 
 -- a run's answer, field by field: the stop is the one of w's number
 pub record StoppedAs (w : Ran StoreColumns) (r : Stopped) : Type 0 where

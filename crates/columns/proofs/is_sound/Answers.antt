@@ -13,7 +13,7 @@ use Rattle.columns.proofs.Searches.{none_before, found_below, found_passes}
 use Rattle.columns.proofs.Walk.{walk_on}
 use Rattle.columns.proofs.Findings.{too_many, too_many_leases, not_given_out, not_kept, port_twice, slot_twice, disordered, stray, lost, not_blank, not_blank_lease, all_right}
 use Rattle.columns.proofs.is_sound.Goals as goal
-use Rattle.columns.proofs.is_sound.Goals.{then-port_mark-e+in_default, else-port_mark-e, then-slot_mark-e+in_default-slot_place, else-slot_mark-e}
+use Rattle.columns.proofs.is_sound.Goals.{then-is_both+in_default, else-is_both, then-is_both-2+in_default-slot_place, else-is_both-2}
 
 pub returns-then-count-gt96 : goal.returns-then-count-gt96
 returns-then-count-gt96 c =
@@ -33,15 +33,15 @@ returns-then-not-is_kept c =
 
 pub returns-in-Some : goal.returns-in-Some
 returns-in-Some c =
-    port_twice box _ _ c.loop-i-test.true _ (found_below _ blank_publication _ _ c.port_place.ensures c.in-Some.is) (and_right (get_or c.loop-i.ports c.mark_of-at_port.result false) _ c.if-port_mark-e.true) (found_passes _ blank_publication c.args.publications c.loop-i.i c.port_place.ensures c.in-Some.is)
+    port_twice box _ _ c.loop-i-test.true _ (found_below _ blank_publication _ _ c.port_place.ensures c.in-Some.is) (and_right (get_or c.loop-i.ports c.mark_of-at_port.result false) _ (sym c.is_both.ensures ∙ c.if-is_both.true)) (found_passes _ blank_publication c.args.publications c.loop-i.i c.port_place.ensures c.in-Some.is)
 
 pub returns-in-Some-slot_place : goal.returns-in-Some-slot_place
 returns-in-Some-slot_place c =
-    slot_twice box _ _ c.loop-i-test.true _ (found_below _ blank_publication _ _ c.slot_place.ensures c.in-Some-slot_place.is) (and_right (get_or c.loop-i.slots c.mark_of-at_slot.result false) _ c.if-slot_mark-e.true) (found_passes _ blank_publication c.args.publications c.loop-i.i c.slot_place.ensures c.in-Some-slot_place.is)
+    slot_twice box _ _ c.loop-i-test.true _ (found_below _ blank_publication _ _ c.slot_place.ensures c.in-Some-slot_place.is) (and_right (get_or c.loop-i.slots c.mark_of-at_slot.result false) _ (sym c.is_both-in-loop-i.ensures ∙ c.if-is_both-2.true)) (found_passes _ blank_publication c.args.publications c.loop-i.i c.slot_place.ensures c.in-Some-slot_place.is)
 
 pub loop-i-preserved : goal.loop-i-preserved
 loop-i-preserved c =
-    walk_on _ c.loop-i.invariant c.loop-i-test.true (sym c.is_kept.ensures ∙ c.if-not-is_kept.false) (elim c.if-port_mark-e.branch [ then-port_mark-e+in_default w ↦ λ v. none_before _ blank_publication _ _ w.port_place.ensures refl w.in_default.is | else-port_mark-e w ↦ mark_clear 1024 _ _ c.loop-i.invariant.port_marks c.mark_of-at_port.ensures w.if-port_mark-e.false ]) (elim c.if-slot_mark-e.branch [ then-slot_mark-e+in_default-slot_place w ↦ λ v. none_before _ blank_publication _ _ w.slot_place.ensures refl w.in_default-slot_place.is | else-slot_mark-e w ↦ mark_clear 1024 _ _ c.loop-i.invariant.slot_marks c.mark_of-at_slot.ensures w.if-slot_mark-e.false ]) c.mark_of-at_port.ensures refl c.mark_of-at_slot.ensures refl
+    walk_on _ c.loop-i.invariant c.loop-i-test.true (sym c.is_kept.ensures ∙ c.if-not-is_kept.false) (elim c.if-is_both.branch [ then-is_both+in_default w ↦ λ v. none_before _ blank_publication _ _ w.port_place.ensures refl w.in_default.is | else-is_both w ↦ mark_clear 1024 _ _ c.loop-i.invariant.port_marks c.mark_of-at_port.ensures (sym c.is_both.ensures ∙ w.if-is_both.false) ]) (elim c.if-is_both-2.branch [ then-is_both-2+in_default-slot_place w ↦ λ v. none_before _ blank_publication _ _ w.slot_place.ensures refl w.in_default-slot_place.is | else-is_both-2 w ↦ mark_clear 1024 _ _ c.loop-i.invariant.slot_marks c.mark_of-at_slot.ensures (sym c.is_both-in-loop-i.ensures ∙ w.if-is_both-2.false) ]) c.mark_of-at_port.ensures c.is_either.ensures c.mark_of-at_slot.ensures c.is_either-in-loop-i.ensures
 
 pub returns-then-not-is_in_order : goal.returns-then-not-is_in_order
 returns-then-not-is_in_order c =

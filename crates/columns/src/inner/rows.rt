@@ -76,19 +76,19 @@ pub fn adopt_verdict(
     }
 }
 
-// acquire: 1, 2, 7.
+// acquire, whatever the active leases are: 1, 2, 7.
 pub fn acquire_verdict(
     publications: &[Publication],
-    leases: &[Lease],
+    active: usize,
     counter: u64,
     id: PublicationId,
 ) -> Result<(), Refusal>
-    ensures { result ≡ verdict_of (verdict (acquire_row box (table_of publications.now leases.now counter) id)) }
+    ensures { (leases : List Lease) → length leases ≡ active → result ≡ verdict_of (verdict (acquire_row box (table_of publications.now leases counter) id)) }
 {
     let Some(e) = search::known(publications, id) else {
         return Err(Refusal::Unknown);
     };
-    records::acquire_verdict(e, leases.len(), counter)
+    records::acquire_verdict(e, active, counter)
 }
 
 // A lease that is released or read: 1, 6.
