@@ -114,17 +114,33 @@ fn word(op: Op) -> &'static str
     }
 }
 
+// What stands before a pair. Where that is nothing, nothing is written: a caller's own writer may refuse an empty text.
+#[derive(Clone, Copy)]
+struct Lead<'a>(&'a str);
+
+impl fmt::Display for Lead<'_> {
+    ghost output = { λ l. Some l.0.now };
+
+    fn fmt<W: fmt::Write>(&self, f: &mut fmt::Formatter<W>) -> fmt::Result {
+        let Lead(text) = *self;
+        if text.is_empty() {
+            return Ok(());
+        }
+        f.write_str(text)
+    }
+}
+
 // A key by its word, its sign and its value, after what stands before it.
 #[derive(Clone, Copy)]
 struct Pair<'a> {
-    lead: &'a str,
+    lead: Lead<'a>,
     code: u8,
     sign: &'a str,
     value: u64,
 }
 
 impl fmt::Display for Pair<'_> {
-    ghost output = { λ p. Some (p.lead.now ++ pair_text p.sign.now (p.code is p.value)) };
+    ghost output = { λ p. Some (p.lead.0.now ++ pair_text p.sign.now (p.code is p.value)) };
 
     fn fmt<W: fmt::Write>(&self, f: &mut fmt::Formatter<W>) -> fmt::Result {
         let Pair {
@@ -164,7 +180,7 @@ impl fmt::Display for Pairs<'_> {
             }
             let value = values[k];
             let pair = Pair {
-                lead,
+                lead: Lead(lead),
                 code,
                 sign,
                 value,
@@ -331,5 +347,56 @@ fn answered(response: Response) -> Answer
             keys: [9, 0, 0, 0, 0],
             values: [n, 0, 0, 0, 0],
         },
+    }
+}
+
+// What no clause says: an empty text isn't written where nothing leads, so that a writer may refuse one.
+#[cfg(test)]
+mod tests {
+    use super::*;
+    use rules::{Owner, Port, PublicationId};
+
+    #[derive(Drop)]
+    struct RefusesEmpty {
+        bytes: usize,
+    }
+
+    impl fmt::Write for RefusesEmpty {
+        fn write_str(&mut self, s: &str) -> fmt::Result {
+            if s.is_empty() {
+                return Err(fmt::Error);
+            }
+            self.bytes = self.bytes.saturating_add(s.len());
+            Ok(())
+        }
+    }
+
+    #[test]
+    fn nothing_empty_is_written(rt: HostRuntime) {
+        let words = InWords {
+            command: Command::Publish {
+                owner: Owner(1),
+                generation: 2,
+                port: Port(3),
+                payload: 4,
+            },
+            width: 0,
+            sign: "=",
+            between: " ",
+        };
+        let given = Given {
+            response: Response::Id(PublicationId(5)),
+            sign: "=",
+            between: " ",
+        };
+        let mut writer = RefusesEmpty { bytes: 0 };
+        assert!(rt; fmt::Write::write(&mut writer, words).is_ok());
+        assert_eq!(rt;
+            writer.bytes,
+            "publish owner=1 generation=2 port=3 payload=4".len()
+        );
+        let mut writer = RefusesEmpty { bytes: 0 };
+        assert!(rt; fmt::Write::write(&mut writer, given).is_ok());
+        assert_eq!(rt; writer.bytes, "id=5".len());
     }
 }
