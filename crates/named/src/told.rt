@@ -350,29 +350,32 @@ fn answered(response: Response) -> Answer
     }
 }
 
-// What no clause says: an empty text isn't written where nothing leads, so that a writer may refuse one.
+// What no clause says: in how many writes a text comes, and that none of them is empty where the sign and what stands between are not. A
+// caller's own writer may refuse an empty one, or one too many.
 #[cfg(test)]
 mod tests {
     use super::*;
     use rules::{Owner, Port, PublicationId};
 
     #[derive(Drop)]
-    struct RefusesEmpty {
+    struct Strict {
+        left: usize,
         bytes: usize,
     }
 
-    impl fmt::Write for RefusesEmpty {
+    impl fmt::Write for Strict {
         fn write_str(&mut self, s: &str) -> fmt::Result {
-            if s.is_empty() {
+            if s.is_empty() || self.left == 0 {
                 return Err(fmt::Error);
             }
+            self.left = self.left - 1;
             self.bytes = self.bytes.saturating_add(s.len());
             Ok(())
         }
     }
 
     #[test]
-    fn nothing_empty_is_written(rt: HostRuntime) {
+    fn no_write_is_empty_or_one_too_many(rt: HostRuntime) {
         let words = InWords {
             command: Command::Publish {
                 owner: Owner(1),
@@ -389,13 +392,13 @@ mod tests {
             sign: "=",
             between: " ",
         };
-        let mut writer = RefusesEmpty { bytes: 0 };
+        let mut writer = Strict { left: 17, bytes: 0 };
         assert!(rt; fmt::Write::write(&mut writer, words).is_ok());
         assert_eq!(rt;
             writer.bytes,
             "publish owner=1 generation=2 port=3 payload=4".len()
         );
-        let mut writer = RefusesEmpty { bytes: 0 };
+        let mut writer = Strict { left: 3, bytes: 0 };
         assert!(rt; fmt::Write::write(&mut writer, given).is_ok());
         assert_eq!(rt; writer.bytes, "id=5".len());
     }
