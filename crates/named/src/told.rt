@@ -368,7 +368,7 @@ mod tests {
             if s.is_empty() || self.left == 0 {
                 return Err(fmt::Error);
             }
-            self.left = self.left - 1;
+            self.left -= 1;
             self.bytes = self.bytes.saturating_add(s.len());
             Ok(())
         }
